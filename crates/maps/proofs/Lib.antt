@@ -1,0 +1,5 @@
+mod Firsts
+mod Pastes
+mod Empties
+mod Rounds
+mod Rewrites

@@ -1,0 +1,3 @@
+pub mod Drafts
+pub mod Faults
+pub mod Layers

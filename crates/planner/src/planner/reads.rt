@@ -1,0 +1,177 @@
+// The calls that read the plan.
+ghost use mathlib.Core.Path.{_≡_};
+ghost use lib.ListN.{length};
+ghost use Prim.Native.Nat.{_<_, _≤_};
+ghost use Rattle.definitions.specs.Plans.{worst};
+ghost use Rattle.std.specs.Of.Vec.{vec-items};
+ghost use Rattle.std.specs.Vec.{made};
+ghost use Rattle.planner.specs.Records.{Recorded, next-of};
+ghost use Rattle.planner.specs.State.{state, in-service};
+ghost use Rattle.planner.specs.Answers.{Right, GuaranteeAnswer, NextAnswer, RouteAnswer, BackupAnswer, TraceAnswer};
+ghost use Rattle.planner.specs.Parts.{read-answer, FailureAnswer, DetourAnswer};
+use crate::fault::Fault;
+use crate::planner::Planner;
+use crate::record::NodeRecord;
+use crate::searches;
+use crate::walk;
+use definitions::Failure;
+use networks::layers::AtRisk;
+use networks::layers::AtRiskNetwork;
+use measures::Measure;
+use networks::network::Network;
+use networks::layers::Withdrawn;
+use networks::layers::WithdrawnNetwork;
+
+impl<N: Network, M: Measure> Planner<N, M> {
+    // The guarantee of a node.
+    pub fn guarantee(&self, node: usize) -> Result<u64, Fault>
+        ensures { λ r. ⌜ (Right (M·Measure .scale) (state (N·Network .meaning) (now (self .entry))) → GuaranteeAnswer (M·Measure .scale) (state (N·Network .meaning) (now (self .entry))) node r) ⌝ }
+    {
+        let (_, value) = self.readable(node)?;
+        Ok(value)
+    }
+
+    // The place of the next link of a node.
+    pub fn next(&self, node: usize) -> Result<usize, Fault>
+        ensures { λ r. ⌜ (Right (M·Measure .scale) (state (N·Network .meaning) (now (self .entry))) → NextAnswer (M·Measure .scale) (state (N·Network .meaning) (now (self .entry))) node r) ⌝ }
+    {
+        let (destination, _) = self.readable(node)?;
+        if node == destination {
+            return Err(Fault::AtDestination(node));
+        }
+        Ok(walk::next_at(&self.records, node))
+    }
+
+    // Writes the places of a node's held route and answers how many.
+    pub fn route(&self, node: usize, places: &mut [u16]) -> Result<usize, Fault>
+        ensures { λ r. ⌜ (Right (M·Measure .scale) (state (N·Network .meaning) (now (self .entry))) → RouteAnswer (M·Measure .scale) (state (N·Network .meaning) (now (self .entry))) node (now (places .entry)) r (now (places .exit))) ⌝ }
+    {
+        let _ = self.readable(node)?;
+        let count = walk::steps_at(&self.records, node);
+        if places.len() < count {
+            return Err(Fault::NoRoom(count));
+        }
+        let service = Withdrawn {
+            network: &self.network,
+            marks: &self.withdrawn,
+        };
+        walk::write_places(&service, &self.records, node, &mut places[..count]);
+        Ok(count)
+    }
+
+    // Writes the places of the backup of a node's next link and answers how many.
+    pub fn backup(&self, node: usize, places: &mut [u16]) -> Result<usize, Fault>
+        ensures { λ r. ⌜ (Right (M·Measure .scale) (state (N·Network .meaning) (now (self .entry))) → BackupAnswer (M·Measure .scale) (state (N·Network .meaning) (now (self .entry))) node (now (places .entry)) r (now (places .exit))) ⌝ }
+    {
+        let (destination, _) = self.readable(node)?;
+        if node == destination {
+            return Err(Fault::AtDestination(node));
+        }
+        self.write_backup(node, destination, 0, places)
+    }
+
+    // Writes the places that traffic from a node takes under a failure; answers their plain value and how many they are.
+    pub fn trace(
+        &self,
+        node: usize,
+        failure: Failure,
+        places: &mut [u16],
+    ) -> Result<(u64, usize), Fault>
+        ensures { λ r. ⌜ (Right (M·Measure .scale) (state (N·Network .meaning) (now (self .entry))) → TraceAnswer (M·Measure .scale) (state (N·Network .meaning) (now (self .entry))) node failure (now (places .entry)) r (now (places .exit))) ⌝ }
+    {
+        let (destination, _) = self.readable(node)?;
+        self.check_failure(failure)?;
+        let service = Withdrawn {
+            network: &self.network,
+            marks: &self.withdrawn,
+        };
+        let (turn, passed) = walk::turning_point(
+            &service,
+            &self.records,
+            destination,
+            node,
+            failure,
+        );
+        let count = if turn == destination {
+            if places.len() < passed {
+                return Err(Fault::NoRoom(passed));
+            }
+            passed
+        } else {
+            self.write_backup(turn, destination, passed, places)?
+        };
+        walk::write_places(&service, &self.records, node, &mut places[..passed]);
+        Ok((walk::plain_value::<_, M>(&service, &places[..count]), count))
+    }
+
+    // The questions before each call that reads the plan; the destination and the node's guarantee.
+    fn readable(&self, node: usize) -> Result<(usize, u64), Fault>
+        ensures { λ r. ⌜ r ≡ read-answer (state (N·Network .meaning) (now (self .entry))) node ⌝ }
+    {
+        let Some(destination) = self.destination else {
+            return Err(Fault::NoPlan);
+        };
+        if node >= self.network.node_count() {
+            return Err(Fault::NoNode(node));
+        }
+        match self.records[node].value {
+            Some(value) => Ok((destination, value)),
+            None => Err(Fault::NoGuarantee(node)),
+        }
+    }
+
+    // Is there what a failure names?
+    fn check_failure(&self, failure: Failure) -> Result<(), Fault>
+        ensures { λ r. ⌜ FailureAnswer (N·Network .meaning (now (self .entry) .network)) failure r ⌝ }
+    {
+        match failure {
+            Failure::Nothing => Ok(()),
+            Failure::OneLink(k) => {
+                if self.network.place(usize::from(k)).is_none() {
+                    return Err(Fault::NoLink(usize::from(k)));
+                }
+                Ok(())
+            }
+            Failure::OneGroup(b) => {
+                if b >= 32 {
+                    return Err(Fault::NoGroup(usize::from(b)));
+                }
+                Ok(())
+            }
+        }
+    }
+
+    // Writes the backup of a node's next link after the first `passed` entries, and answers where it ends.
+    fn write_backup(
+        &self,
+        node: usize,
+        destination: usize,
+        passed: usize,
+        places: &mut [u16],
+    ) -> Result<usize, Fault>
+        requires { ⌜ node < N·Network .meaning (now self .network) .nodes ⌝ ∗ ⌜ passed ≤ 256 ⌝ }
+        ensures answer { λ r. ⌜ DetourAnswer (M·Measure .scale) (in-service (state (N·Network .meaning) (now (self .entry)))) destination (state (N·Network .meaning) (now (self .entry)) .records) node passed (now (places .entry)) r (now (places .exit)) ⌝ }
+        ensures room { λ r. ⌜ made r (λ c. (passed ≤ c) × (c ≤ length (now (places .entry)))) ⌝ }
+    {
+        let service = Withdrawn {
+            network: &self.network,
+            marks: &self.withdrawn,
+        };
+        let layer = AtRisk {
+            network: service,
+            link: walk::next_at(&self.records, node),
+        };
+        let mut records = [NodeRecord {
+            value: None,
+            steps: None,
+            next: None,
+        }; 256];
+        searches::plain_records::<_, M>(&layer, destination, &mut records);
+        let count = passed + walk::steps_at(&records, node);
+        if places.len() < count {
+            return Err(Fault::NoRoom(count));
+        }
+        walk::write_places(&layer, &records, node, &mut places[passed..count]);
+        Ok(count)
+    }
+}

@@ -1,0 +1,33 @@
+use native.Mathlib.Omega.{arith}
+use Rattle.search.proofs.Plains.{starts-fitting, plain-answers}
+use Rattle.search.proofs.routes.plain_tables.Needs as need
+
+pub best-values-requires : need.best-values-requires
+best-values-requires g c κs =
+    let few = g .N·Network .limits (c .args .network .now) in
+    record {
+      indexed = c .index-links .ensures;
+      fitting = starts-fitting (g .M·Measure .scale) (g .M·Measure·met .lawful) (g .N·Network .meaning (c .args .network .now)) few (c .args .t) (c .fill .last .list) _ _ (c .fill .ensures) (c .starting .ensures) (omega arith);
+      inside = omega arith;
+      nodes = omega arith;
+      room = omega arith;
+    }
+
+pub next-links-requires : need.next-links-requires
+next-links-requires g c κs =
+    let few = g .N·Network .limits (c .args .network .now) in
+    record {
+      indexed = c .index-links .ensures;
+      fitting = starts-fitting (g .M·Measure .scale) (g .M·Measure·met .lawful) (g .N·Network .meaning (c .args .network .now)) few (c .args .t) (c .fill .last .list) _ _ (c .fill .ensures) (c .starting .ensures) (omega arith);
+      labels = c .best-values .ensures;
+      inside = omega arith;
+      nodes = omega arith;
+      next = omega arith;
+      room = omega arith;
+    }
+
+pub returns : need.returns
+returns g c =
+    let few = g .N·Network .limits (c .args .network .now) in
+    plain-answers (g .M·Measure .scale) (g .M·Measure·met .lawful) (g .N·Network .meaning (c .args .network .now)) few (c .args .t) (c .fill .last .list) _ _
+    (c .fill .ensures) (c .starting .ensures) (omega arith) _ _ _ (c .best-values .ensures) (c .next-links .ensures)
