@@ -37,7 +37,7 @@ labels-answer ρ net t Fit L d S u = ∥∥₁-elim S (best-is-prop ρ net t u (
 
 pub sound-prop : (nodes : ℕ) (l : Link) → IsProp (Sound nodes l)
 sound-prop nodes l A B = λ i.
-  (le-prop (A .0) (B .0) i, le-prop (A .1) (B .1) i, ¬-prop (A .2) (B .2) i, le-prop (A .3) (B .3) i, le-prop (A .4) (B .4) i)
+    (le-prop (A .0) (B .0) i, le-prop (A .1) (B .1) i, ¬-prop (A .2) (B .2) i, le-prop (A .3) (B .3) i, le-prop (A .4) (B .4) i)
 
 pub limits-prop : (net : Net) → IsProp (Limits net)
 limits-prop net A B = λ i. record {

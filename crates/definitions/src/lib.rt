@@ -1,3 +1,6 @@
+ghost use mathlib.Core.Path.{_≡_};
+ghost use Rattle.std.specs.declared.option.Option.the-variants.{Some};
+ghost use Rattle.definitions.specs.Networks.{in-group};
 // A link: the nodes it joins, its figure, and the risk groups it belongs to (bit b: group b).
 #[derive(Clone, Copy, Drop)]
 pub struct Link {
@@ -5,6 +8,15 @@ pub struct Link {
     pub head: u16,
     pub figure: u32,
     pub groups: u32,
+}
+
+impl Link {
+    // Does the link belong to risk group b? No link belongs to a group beyond 31.
+    pub fn in_group(self, b: u16) -> bool
+        ensures { λ r. ⌜ r ≡ in-group b (Some self) ⌝ }
+    {
+        b < 32 && (self.groups >> u32::from(b)) & 1 == 1
+    }
 }
 
 // Where and why a call was refused: the layer (1 draft, 2 map, 3 planner, 4 console), the number of the question

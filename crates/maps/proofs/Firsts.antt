@@ -63,15 +63,15 @@ well-formed bs fits e k l h =
     let m = link-count bs in
     let links : first (link-fault bs) 0 m ≡ None = or-else-none (size-fault bs) _ e .1 in
     elim (cases-lt k m) [
-      inl within ↦
-        let here : Some (link-at bs m k) ≡ Some l = sym (getD-map-counting (λ j. Some (link-at bs m j)) 0 m k k None within (omega arith)) ∙ h in
-        let same : link-at bs m k ≡ l = cc in
-        let none = as-none _ (first-none (link-fault bs) 0 m links k (omega arith) (omega arith)) in
-        subst (Sound (node-count bs)) same (sound-unless (node-count bs) k (link-at bs m k) none (be32-fits bs fits _) (be32-fits bs fits _) .1)
-    | inr past ↦
-        let long : length (mapped bs .places) ≤ k = rw length-map-counting past in
-        let none : None ≡ Some l = sym (getD-past (mapped bs .places) k None long) ∙ h in
-        let z : _≡_ {A = ℕ} 0 1 = cc in absurd (omega arith)
+      | inl within ↦
+          let here : Some (link-at bs m k) ≡ Some l = sym (getD-map-counting (λ j. Some (link-at bs m j)) 0 m k k None within (omega arith)) ∙ h in
+          let same : link-at bs m k ≡ l = cc in
+          let none = as-none _ (first-none (link-fault bs) 0 m links k (omega arith) (omega arith)) in
+          subst (Sound (node-count bs)) same (sound-unless (node-count bs) k (link-at bs m k) none (be32-fits bs fits _) (be32-fits bs fits _) .1)
+      | inr past ↦
+          let long : length (mapped bs .places) ≤ k = rw length-map-counting past in
+          let none : None ≡ Some l = sym (getD-past (mapped bs .places) k None long) ∙ h in
+          let z : _≡_ {A = ℕ} 0 1 = cc in absurd (omega arith)
     ]
 
 pub no-size-fault : (bs : List ℕ) → map-fault bs ≡ None → size-fault bs ≡ None

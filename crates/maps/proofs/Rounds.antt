@@ -146,8 +146,8 @@ module _ (n : Net) (limits : Limits n) (one : 1 ≤ n .nodes) (full : first-empt
   means =
       let bs = map-bytes n in
       let places : n .places ≡ map (λ k. Some (link-at bs (link-count bs) k)) (counting 0 (link-count bs)) =
-          fill-by-all (λ k. Some (link-at bs (link-count bs) k)) (n .places) (link-count bs) None (sym links-back)
-          (λ k h. let within : k < length (n .places) = omega (arith, links-back) in full-at 0 (n .places) full k within ∙ ap Some (sym (place-back k within))) in
+      fill-by-all (λ k. Some (link-at bs (link-count bs) k)) (n .places) (link-count bs) None (sym links-back)
+      (λ k h. let within : k < length (n .places) = omega (arith, links-back) in full-at 0 (n .places) full k within ∙ ap Some (sym (place-back k within))) in
       ap (λ c. record { nodes = c; places = mapped bs .places }) nodes-back ∙ ap (λ ps. record { nodes = n .nodes; places = ps }) (sym places)
 
 -- What an answer with a length says of the network.

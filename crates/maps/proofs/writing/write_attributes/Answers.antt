@@ -17,8 +17,8 @@ pub loop-k-again : need.loop-k-again
 loop-k-again g c =
     let ps = g .N·Network .meaning (c .args .network .now) .places in
     elim (c .match-place .came) [
-      in-Some w ↦ paste-entry attributes-in 8 (λ _. refl) ps (c .args .out .now) (c .loop-k .out) (c .match-place .out) _ _ (c .loop-k .k) _ (omega arith) (omega arith) (c .loop-k .inv) (w .in-Some .ensures tt) (w .out-is ∙ w .put-attributes .ensures) refl
-    | in-rest w ↦ never-empty ps (c .loop-k .k) (c .pre .1) (omega arith) (w .in-rest .ensures tt)
+      | in-Some w ↦ paste-entry attributes-in 8 (λ _. refl) ps (c .args .out .now) (c .loop-k .out) (c .match-place .out) _ _ (c .loop-k .k) _ (omega arith) (omega arith) (c .loop-k .inv) (w .in-Some .ensures tt) (w .out-is ∙ w .put-attributes .ensures) refl
+      | in-rest w ↦ never-empty ps (c .loop-k .k) (c .pre .1) (omega arith) (w .in-rest .ensures tt)
     ]
 
 pub returns : need.returns

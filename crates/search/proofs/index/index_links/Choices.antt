@@ -1,5 +1,0 @@
-use Rattle.search.specs.Indexes.{Indexing}
-use Rattle.search.proofs.index.index_links.Given as given
-
-abbrev pub Inv-loop-k : given.InvT-loop-k
-Inv-loop-k g l = Indexing (g .N·Network .meaning (l .network)) (l .index) (l .k)
