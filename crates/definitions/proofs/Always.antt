@@ -1,28 +1,25 @@
--- Guarantees, held routes, backups and the equality case of a trace, with no hypothesis that any of them exists.
+-- Recovery values, guarantees, held routes and backups exist, with no hypothesis but the limits and the laws.
 use mathlib.Core.Path.{_≡_, refl, sym, _∙_, ap, subst}
 use mathlib.Core.List.{List}
 use Prim.Native.Nat.{ℕ}
 use native.Mathlib.Omega.{arith}
-use lib.ListN.{length}
 use Rattle.std.specs.declared.option.Option.{Option}
 use Rattle.std.specs.declared.option.Option.the-variants.{Some, None}
 use Rattle.definitions.specs.declared.Link.{Link}
-use Rattle.definitions.specs.Networks.{Net, Holds, Limits, place, risks, at-risk, failed}
+use Rattle.definitions.specs.Networks.{Net, Holds, Limits, place, risks, at-risk}
 use Rattle.definitions.specs.Measures.{Scale, Laws, worse}
 use Rattle.definitions.specs.Routes.{Next, Held, NoRoute}
 use Rattle.definitions.specs.Plans.{plain, worst, Recovery, Guarantee, Backup}
 use Rattle.definitions.specs.Searches.{given, Labels, Nexts}
-use Rattle.definitions.specs.Theorems.{TraceMeetsGuarantee, AtMostOne}
 use Rattle.definitions.proofs.Fixpoint.{label-best, label-none, best-label}
 use Rattle.definitions.proofs.Layers.{without-limits}
 use Rattle.definitions.proofs.Lawfuls.{Value, plain-lawful, worst-lawful}
 use Rattle.definitions.proofs.Following.{value-steps, held-from}
 use Rattle.definitions.proofs.Givens.{Recoveries, recoveries-lawful, worst-labels, worst-nexts}
 use Rattle.definitions.proofs.Existence.{labels-exist, nexts-exist, plain-exists}
-use Rattle.definitions.proofs.Mains.{trace-is-tight}
 
 module _ (m : Scale) (M : Laws m) (net : Net) (N : Limits net) (t : ℕ) where
-  low : (k : ℕ) → Limits (at-risk k net)
+  pub low : (k : ℕ) → Limits (at-risk k net)
   low k = without-limits (risks net k) net N
 
   -- the best plain value at the tail of k, in the layer at risk with k
@@ -85,8 +82,3 @@ module _ (m : Scale) (M : Laws m) (net : Net) (N : Limits net) (t : ℕ) where
       let e = best-label (worst m net t) net t Value L d S u g G in
       let (c, q) = value-steps (worst m net t) net t Value L d S s nx X u g e in
       held-from (worst m net t) net t Value L d S s nx X c u q
-
-pub trace-meets-guarantee : TraceMeetsGuarantee
-trace-meets-guarantee m M net N t u g G =
-    let (ks, H) = guarantee-held m M net N t u g G in
-    trace-is-tight m M net N t u g ks (backups m M net N t) G H

@@ -100,7 +100,7 @@ module _ (m : Scale) (M : Laws m) (net : Net) (N : Limits net) (t : ℕ) where
     pub given-via : (k : ℕ) (l : Link) (b w : ℕ) → Holds net k l → given m r .via k l b w → worst m net t .via k l b w
     given-via k l b w h (x, e, q) = (x, R .some k l x h e, q)
 
-    worst-via : (k : ℕ) (l : Link) (b w : ℕ) → Holds net k l → worst m net t .via k l b w → given m r .via k l b w
+    pub worst-via : (k : ℕ) (l : Link) (b w : ℕ) → Holds net k l → worst m net t .via k l b w → given m r .via k l b w
     worst-via k l b w h (x, B, q) = go (r k) refl
       where
         go : (o : Option ℕ) → r k ≡ o → given m r .via k l b w

@@ -12,6 +12,7 @@ use Rattle.std.specs.declared.option.Option.{Option}
 use Rattle.std.specs.declared.option.Option.the-variants.{Some, None}
 use Rattle.definitions.specs.declared.Link.{Link}
 use Rattle.definitions.specs.Networks.{Net, Holds, Sound, Limits, place, emptied, without, withdrawn, share-group, risks, at-risk}
+use Rattle.definitions.specs.Routes.{Route, Clear}
 
 pub place-emptied : (gone : ℕ → Bool) (ps : List (Option Link)) (k : ℕ) → place (emptied gone ps) k ≡ cond (gone k) None (place ps k)
 place-emptied gone [] k = elim (gone k) as (λ b. _≡_ {A = Option Link} None (cond b None None)) [ true ↦ refl | false ↦ refl ]
@@ -40,6 +41,18 @@ without-limits gone net L =
       few-places = rw length-emptied (L .few-places);
       sound = λ k l h. L .sound k l (below gone net k l h .0);
     }
+
+-- A route of a layer is a route of the network below that passes no place that is gone, and the other way round.
+pub layer-route : (gone : ℕ → Bool) (net : Net) (t u : ℕ) (ks : List ℕ) → Route (without gone net) t u ks → Route net t u ks × Clear gone ks
+layer-route gone net t u [] p = (p, tt)
+layer-route gone net t u (k ∷ ks) (l, h, e, r) =
+    let (hn, safe) = below gone net k l h in
+    let (q, c) = layer-route gone net t (l .head) ks r in
+    ((l, hn, e, q), (safe, c))
+
+pub route-layer : (gone : ℕ → Bool) (net : Net) (t u : ℕ) (ks : List ℕ) → Route net t u ks → Clear gone ks → Route (without gone net) t u ks
+route-layer gone net t u [] p c = p
+route-layer gone net t u (k ∷ ks) (l, h, e, r) (safe, c) = (l, above gone net k l h safe, e, route-layer gone net t (l .head) ks r c)
 
 -- Two links at one place are the same.
 pub same-link : (net : Net) (k : ℕ) (l i : Link) → Holds net k l → Holds net k i → l ≡ i

@@ -3,29 +3,30 @@ use mathlib.Core.Path.{_≡_, refl, sym, _∙_, ap, subst}
 use mathlib.Core.Bool.{Bool, true, false, cond, not, _&&_, _||_}
 use mathlib.Core.List.{List, [], _∷_}
 use mathlib.Core.HLevel.{⊥-prop}
-use mathlib.Core.Logic.{_⊎_, inl, inr, ∥∥₁-elim}
+use mathlib.Core.Logic.{_↔_, ∥∥₁-elim}
 use Prim.Native.Nat.{ℕ, zero, suc, pred, _<_, _≤_, _^_}
 use native.Mathlib.Omega.{arith}
 use lib.Dec.{eqb, leb, ltb}
 use lib.ListN.{length, set, replicate, getD}
-use Rattle.std.proofs.shelf.Tests.{and-parts, eqb-true, eqb-false, eq-eqb, leb-true, ltb-true, not-true, cases-bool}
+use Rattle.std.proofs.shelf.Tests.{and-parts, and-from, eqb-true, eqb-false, eq-eqb, ne-eqb, leb-true, ltb-true, not-true, both-ways}
 use Rattle.std.specs.declared.option.Option.{Option}
 use Rattle.std.specs.declared.option.Option.the-variants.{Some, None}
 use Rattle.definitions.specs.declared.Link.{Link}
 use Rattle.definitions.specs.declared.Failure.{Failure}
 use Rattle.definitions.specs.Networks.{Net, Holds, Sound, Limits, place, risks, at-risk, failed}
 use Rattle.definitions.specs.Measures.{Scale, Laws, worse}
-use Rattle.definitions.specs.Routes.{Valuation, RouteValue, Best, NoRoute, Next, Held}
-use Rattle.definitions.specs.Plans.{plain, worst, Recovery, Guarantee, Backup, Traced, arrived, onward, turned, Counted, none, one, skip, Planned}
+use Rattle.definitions.specs.Routes.{Valuation, RouteValue, Best, NoRoute, Tight, Steps, Next, Held}
+use Rattle.definitions.specs.Plans.{plain, worst, Recovery, BackedUp, Guarantee, Backup, Traced, arrived, onward, turned, Counted, none, one, skip, Planned}
 use Rattle.definitions.specs.Searches.{given, Labels, Nexts}
-use Rattle.definitions.specs.Example.{Claim, guarantee, no-guarantee, next-link, backup, trace, worst-value, planned, True, AllTrue, Case, AllCases, Kind, by-delay, by-width, scale, table}
+use Rattle.definitions.specs.Example.{Claim, recovery, no-recovery, worst-value, guarantee, no-guarantee, planned, tight-links, steps, next-link, held, backup, trace, among, TracedAll, True, AllTrue, Case, AllCases, Kind, by-delay, by-width, scale, table}
 use Rattle.definitions.proofs.Fixpoint.{Lawful, label-best, label-none}
-use Rattle.definitions.proofs.Following.{next-label}
+use Rattle.definitions.proofs.Following.{next-label, steps-label, tight-labels, labels-tight}
 use Rattle.definitions.proofs.Layers.{without-limits, same-link}
 use Rattle.definitions.proofs.Lawfuls.{Value, plain-lawful, worst-lawful}
-use Rattle.definitions.proofs.Givens.{Recoveries, recoveries-lawful, worst-labels, worst-nexts, starts-lawful, plain-labels, plain-nexts, given-via}
+use Rattle.definitions.proofs.Givens.{Recoveries, recoveries-lawful, worst-labels, worst-nexts, starts-lawful, plain-labels, plain-nexts, given-via, worst-via}
 use Rattle.definitions.proofs.Scales.{delay-laws, width-laws}
-use Rattle.definitions.proofs.Sheets.{none-or, some-and, none-or-at, some-and-at, every, every-at, Sheet, made, made-via, right?, right, sheet-labels, sheet-nexts}
+use Rattle.definitions.proofs.Mains.{recovery-exists}
+use Rattle.definitions.proofs.Sheets.{none-or, some-and, none-or-at, some-and-at, every, every-at, Sheet, made, made-via, via-made, right?, right, sheet-labels, sheet-nexts}
 
 -- Finding the labels. Nothing is proved of this: what it finds is tested.
 
@@ -246,6 +247,14 @@ abbrev count : (ℕ → Option ℕ) → ℕ → ℕ
 count d zero = 0
 count d (suc n) = elim (d n) [ None ↦ count d n | Some a ↦ suc (count d n) ]
 
+abbrev is-none : Option ℕ → Bool
+is-none None = true
+is-none (Some a) = false
+
+none-is : (o : Option ℕ) → is-none o ≡ true → o ≡ None
+none-is None e = refl
+none-is (Some a) e = let z : _≡_ {A = ℕ} 0 1 = cc in absurd (omega arith)
+
 -- The trace, by all labels.
 abbrev traced? : Net → Book → ℕ → (ℕ → Bool) → ℕ → List ℕ → Bool
 traced? net bk t fails u [] = eqb u t
@@ -254,14 +263,39 @@ traced? net bk t fails u (k ∷ ks) =
     (held? (at-risk j net) (layer-at (bk .layers) j) t u (k ∷ ks))
     (eqb j k && some-and (place (net .places) k) (λ l. traced? net bk t fails (l .head) ks)))
 
+abbrev same : Bool → Bool → Bool
+same a b = cond a b (not b)
+
+same-to : (a b : Bool) → same a b ≡ true → a ≡ true → b ≡ true
+same-to a b h e = subst (λ x. same x b ≡ true) e h
+
+same-from : (a b : Bool) → same a b ≡ true → b ≡ true → a ≡ true
+same-from true b h e = refl
+same-from false b h e = absurd (both-ways b (not-true b h) e)
+
+some-and-from : {X : Type 0} (o : Option X) (f : X → Bool) (x : X) → o ≡ Some x → f x ≡ true → some-and o f ≡ true
+some-and-from o f x e h = subst (λ z. some-and z f ≡ true) (sym e) h
+
+abbrev traced-all? : Net → Book → ℕ → ℕ → List ℕ → List Failure → Bool
+traced-all? net bk t u ks [] = true
+traced-all? net bk t u ks (f ∷ fs) = traced? net bk t (failed net f) u ks && traced-all? net bk t u ks fs
+
+abbrev recovery? : Net → Book → ℕ → (Option ℕ → Bool) → Bool
+recovery? net bk k p = some-and (place (net .places) k) (λ l. p (place (layer-at (bk .layers) k .values) (l .tail)))
+
 abbrev claim? : Scale → Net → ℕ → Book → Claim → Bool
-claim? m net t bk (guarantee u g) = some-and (place (bk .main .values) u) (λ a. eqb a g)
-claim? m net t bk (no-guarantee u) = elim (place (bk .main .values) u) [ None ↦ true | Some a ↦ false ]
-claim? m net t bk (next-link u k) = next? (bk .main) t u k
-claim? m net t bk (backup u ks) = some-and (place (bk .main .nexts) u) (λ k. next? (bk .main) t u k && held? (at-risk k net) (layer-at (bk .layers) k) t u ks)
-claim? m net t bk (trace u f ks v) = traced? net bk t (failed net f) u ks && value? (λ k l x. Some (m .extend x (l .figure))) (m .start) net t u ks (λ w. eqb w v)
+claim? m net t bk (recovery k r) = recovery? net bk k (λ o. some-and o (λ x. eqb x r))
+claim? m net t bk (no-recovery k) = recovery? net bk k (λ o. is-none o)
 claim? m net t bk (worst-value u ks v) = value? (made m (recovered net (bk .layers))) (m .start) net t u ks (λ w. eqb w v)
+claim? m net t bk (guarantee u g) = some-and (place (bk .main .values) u) (λ a. eqb a g)
+claim? m net t bk (no-guarantee u) = is-none (place (bk .main .values) u)
 claim? m net t bk (planned c) = eqb (count (place (bk .main .values)) (net .nodes)) c
+claim? m net t bk (tight-links ks) = every (λ k l. same (met? m t (recovered net (bk .layers)) (bk .main .values) k l) (among k ks)) (net .places)
+claim? m net t bk (steps u n) = some-and (place (bk .main .steps) u) (λ c. eqb c n)
+claim? m net t bk (next-link u k) = next? (bk .main) t u k
+claim? m net t bk (held u ks) = held? net (bk .main) t u ks
+claim? m net t bk (backup u ks) = some-and (place (bk .main .nexts) u) (λ k. next? (bk .main) t u k && held? (at-risk k net) (layer-at (bk .layers) k) t u ks)
+claim? m net t bk (trace u fs ks v) = traced-all? net bk t u ks fs && value? (λ k l x. Some (m .extend x (l .figure))) (m .start) net t u ks (λ w. eqb w v)
 
 abbrev claims? : Scale → Net → ℕ → Book → List Claim → Bool
 claims? m net t bk [] = true
@@ -306,29 +340,84 @@ module _ (m : Scale) (M : Laws m) (net : Net) (t : ℕ) (bk : Book) (ok : all-ri
       go None e ih = skip (λ x. ∥∥₁-elim x ⊥-prop (λ g. ∥∥₁-elim (g .1 .reached) ⊥-prop (λ c. no-guarantee-right m M net t bk ok n e (c .0) (g .0) (c .1)))) ih
       go (Some g) e ih = one ∣ (g, guarantee-right m M net t bk ok n g e) ∣₁ ih
 
+  traced-all-right : (u : ℕ) (ks : List ℕ) (fs : List Failure) → traced-all? net bk t u ks fs ≡ true → TracedAll m net t u ks fs
+  traced-all-right u ks [] h = tt
+  traced-all-right u ks (f ∷ fs) h =
+      let (a, b) = and-parts (traced? net bk t (failed net f) u ks) _ h in
+      (traced-right (failed net f) u ks a, traced-all-right u ks fs b)
+
+  -- which links are tight, by the labels
+  abbrev tight? : ℕ → Link → Bool
+  tight? k l = met? m t (recovered net (bk .layers)) (bk .main .values) k l
+
+  tight-to : (k : ℕ) (l : Link) → Holds net k l → tight? k l ≡ true → Tight (worst m net t) net t k l
+  tight-to k l h e =
+      let (n, e1) = and-parts (not (eqb (l .tail) t)) _ e in
+      let (b, hb, e2) = some-and-at (place (bk .main .values) (l .head)) _ e1 in
+      let (w, hw, e3) = some-and-at (made m (recovered net (bk .layers)) k l b) _ e2 in
+      let (a, ha, e4) = some-and-at (place (bk .main .values) (l .tail)) _ e3 in
+      let g = given-via m M net (lim m M net t bk ok) t (recovered net (bk .layers)) (recoveries m M net t bk ok) k l b w h (made-via m (recovered net (bk .layers)) k l b w hw) in
+      tight-labels (worst m net t) net t Value (worst-lawful m M net (lim m M net t bk ok) t) (place (bk .main .values)) (labels m M net t bk ok) k l b a
+      (eqb-false (l .tail) t (not-true _ n)) hb ha (subst (λ x. worst m net t .via k l b x) (sym (eqb-true a w e4)) g)
+
+  tight-from : (k : ℕ) (l : Link) → Holds net k l → Tight (worst m net t) net t k l → tight? k l ≡ true
+  tight-from k l h T =
+      let (b, a, hb, ha, v) = labels-tight (worst m net t) net t Value (worst-lawful m M net (lim m M net t bk ok) t) (place (bk .main .values)) (labels m M net t bk ok) k l T in
+      let g = worst-via m M net (lim m M net t bk ok) t (recovered net (bk .layers)) (recoveries m M net t bk ok) k l b a h v in
+      and-from (not (eqb (l .tail) t)) _ (ap not (ne-eqb (l .tail) t (T .elsewhere)))
+      (some-and-from (place (bk .main .values) (l .head)) _ b hb
+      (some-and-from (made m (recovered net (bk .layers)) k l b) _ a (via-made m (recovered net (bk .layers)) k l b a g)
+      (some-and-from (place (bk .main .values) (l .tail)) _ a ha (eq-eqb a a refl))))
+
+  tight-right : (ks : List ℕ) → every (λ k l. same (tight? k l) (among k ks)) (net .places) ≡ true →
+      (k : ℕ) (l : Link) → Holds net k l → Tight (worst m net t) net t k l ↔ (among k ks ≡ true)
+  tight-right ks e k l h =
+      let z = every-at (λ j i. same (tight? j i) (among j ks)) (net .places) k l e h in (
+        λ T. same-to (tight? k l) (among k ks) z (tight-from k l h T),
+        λ q. tight-to k l h (same-from (tight? k l) (among k ks) z q),
+      )
+
+  recovery-right : (k : ℕ) (p : Option ℕ → Bool) → recovery? net bk k p ≡ true →
+      (l : Link) × Holds net k l × (p (place (layer-at (bk .layers) k .values) (l .tail)) ≡ true)
+  recovery-right k p h = some-and-at (place (net .places) k) _ h
+
   claim-right : (c : Claim) → claim? m net t bk c ≡ true → True m net t c
+  claim-right (recovery k r) h =
+      let (l, hl, q) = recovery-right k (λ o. some-and o (λ x. eqb x r)) h in
+      let (x, ex, z) = some-and-at (place (layer-at (bk .layers) k .values) (l .tail)) (λ x. eqb x r) q in
+      (l, hl, label-best (plain m) (at-risk k net) t Value (plain-lawful m M (at-risk k net) (llim m M net t bk ok k l hl)) _ (llabels m M net t bk ok k l hl) (l .tail) r (ex ∙ ap Some (eqb-true x r z)))
+  claim-right (no-recovery k) h =
+      let (l, hl, q) = recovery-right k is-none h in (
+        l,
+        hl,
+        λ some.
+            let (r, R) = recovery-exists m M net (lim m M net t bk ok) t k l .0 some in
+            let none = label-none (plain m) (at-risk k net) t Value (plain-lawful m M (at-risk k net) (llim m M net t bk ok k l hl)) _ (llabels m M net t bk ok k l hl) (l .tail) (none-is _ q) in
+            ∥∥₁-elim (R .reached) ⊥-prop (λ (ks, W). none ks r W),
+      )
+  claim-right (worst-value u ks v) h =
+      let (w, W, z) = value-right (worst m net t) (made m (recovered net (bk .layers))) net t
+      (λ k l x w hl e. given-via m M net (lim m M net t bk ok) t (recovered net (bk .layers)) (recoveries m M net t bk ok) k l x w hl (made-via m (recovered net (bk .layers)) k l x w e)) u ks (λ w. eqb w v) h in
+      subst (λ x. RouteValue (worst m net t) net t u ks x) (eqb-true w v z) W
   claim-right (guarantee u g) h = let (a, ea, z) = some-and-at (place (bk .main .values) u) _ h in guarantee-right m M net t bk ok u g (ea ∙ ap Some (eqb-true a g z))
-  claim-right (no-guarantee u) h = no-guarantee-right m M net t bk ok u (go (place (bk .main .values) u) h)
-    where
-      go : (o : Option ℕ) → elim o [ None ↦ true | Some a ↦ false ] ≡ true → o ≡ None
-      go None e = refl
-      go (Some a) e = let z : _≡_ {A = ℕ} 0 1 = cc in absurd (omega arith)
+  claim-right (no-guarantee u) h = no-guarantee-right m M net t bk ok u (none-is _ h)
+  claim-right (planned c) h = subst (λ x. Planned m net t x) (eqb-true _ _ h) (counted (net .nodes))
+  claim-right (tight-links ks) h = tight-right ks h
+  claim-right (steps u n) h =
+      let (c, ec, z) = some-and-at (place (bk .main .steps) u) _ h in
+      steps-label (worst m net t) net t Value (worst-lawful m M net (lim m M net t bk ok) t) (place (bk .main .values)) (labels m M net t bk ok)
+      (place (bk .main .steps)) (place (bk .main .nexts)) (nexts m M net t bk ok) u n (ec ∙ ap Some (eqb-true c n z))
   claim-right (next-link u k) h = main-next u k h
+  claim-right (held u ks) h = held-right (worst m net t) net t (worst-lawful m M net (lim m M net t bk ok) t) (bk .main) (labels m M net t bk ok) (nexts m M net t bk ok) u ks h
   claim-right (backup u ks) h =
       let (k, ek, p) = some-and-at (place (bk .main .nexts) u) _ h in
       let (a, q) = and-parts (next? (bk .main) t u k) _ p in
       let (l, K) = main-next u k a in
       (k, l, K, layer-held u k l ks K q)
-  claim-right (trace u f ks v) h =
-      let (a, b) = and-parts (traced? net bk t (failed net f) u ks) _ h in
+  claim-right (trace u fs ks v) h =
+      let (a, b) = and-parts (traced-all? net bk t u ks fs) _ h in
       let (w, W, z) = value-right (plain m) (λ k l x. Some (m .extend x (l .figure))) net t (λ k l x w hl e. let q : m .extend x (l .figure) ≡ w = cc in sym q) u ks (λ w. eqb w v) b in
-      (traced-right (failed net f) u ks a, subst (λ x. RouteValue (plain m) net t u ks x) (eqb-true w v z) W)
-  claim-right (worst-value u ks v) h =
-      let r = recovered net (bk .layers) in
-      let (w, W, z) = value-right (worst m net t) (made m (recovered net (bk .layers))) net t
-      (λ k l x w hl e. given-via m M net (lim m M net t bk ok) t (recovered net (bk .layers)) (recoveries m M net t bk ok) k l x w hl (made-via m (recovered net (bk .layers)) k l x w e)) u ks (λ w. eqb w v) h in
-      subst (λ x. RouteValue (worst m net t) net t u ks x) (eqb-true w v z) W
-  claim-right (planned c) h = subst (λ x. Planned m net t x) (eqb-true _ _ h) (counted (net .nodes))
+      (traced-all-right u ks fs a, subst (λ x. RouteValue (plain m) net t u ks x) (eqb-true w v z) W)
 
   pub claims-right : (cs : List Claim) → claims? m net t bk cs ≡ true → AllTrue m net t cs
   claims-right [] h = tt

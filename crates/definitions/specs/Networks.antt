@@ -52,7 +52,7 @@ emptied gone (p ∷ ps) = cond (gone 0) None p ∷ emptied (λ k. gone (suc k)) 
 abbrev pub without : (ℕ → Bool) → Net → Net
 without gone net = record { nodes = net .nodes; places = emptied gone (net .places) }
 
--- Layer "withdrawn": the marked places are empty.
+-- The layer "withdrawn": a network in which the marked places are empty.
 abbrev pub withdrawn : List Bool → Net → Net
 withdrawn marks net = without (λ k. getD marks k false) net
 
@@ -62,20 +62,20 @@ share-group None q = false
 share-group (Some a) None = false
 share-group (Some a) (Some b) = not (eqb (bitAnd (a .groups) (b .groups)) 0)
 
--- Place j is at risk with place k.
+-- Place j is at risk with place k: it is k itself, or their links have a common risk group.
 abbrev pub risks : Net → ℕ → ℕ → Bool
 risks net k j = eqb j k || share-group (place (net .places) j) (place (net .places) k)
 
--- Layer "at risk with k".
+-- The layer "at risk with k": a network in which all that is at risk with k is empty.
 abbrev pub at-risk : ℕ → Net → Net
 at-risk k net = without (risks net k) net
 
--- The link belongs to risk group b.
+-- The place holds a link that belongs to risk group b.
 abbrev pub in-group : ℕ → Option Link → Bool
 in-group b None = false
 in-group b (Some l) = eqb (l .groups / 2 ^ b % 2) 1
 
--- Place j has failed: in no failure none, else the one link, or each link of the one group.
+-- Place j has failed: nothing, the one link, or each link of the one group.
 abbrev pub failed : Net → Failure → ℕ → Bool
 failed net Nothing j = false
 failed net (OneLink k) j = eqb j k

@@ -4,18 +4,28 @@ use mathlib.Core.List.{List, [], _∷_}
 use mathlib.Core.Bool.{Bool, true, false}
 use Prim.Native.Nat.{ℕ, suc}
 use Rattle.definitions.specs.declared.Link.{Link}
-use Rattle.definitions.specs.Networks.{Net, Holds, at-risk}
+use Rattle.definitions.specs.Networks.{Net, Holds, risks, at-risk}
 use Rattle.definitions.specs.Measures.{Scale, worse}
-use Rattle.definitions.specs.Routes.{Valuation, RouteValue, Best, Next, Held}
+use Rattle.definitions.specs.Routes.{Valuation, Route, Clear, Best, Next, Held}
 
 -- Plain values: each link extends the value of the rest by its figure.
 abbrev pub plain : Scale → Valuation
 plain m = record { start = m .start; via = λ k l v w. w ≡ m .extend v (l .figure); no-worse = m .no-worse }
 
--- r(k): the best plain value of a route from the tail of k to t in the layer "at risk with k".
--- The link is backed up if there is one.
+-- r is the recovery value r(k) of the link l at place k: the best plain value of a route from its tail to t
+-- in the layer "at risk with k".
 abbrev pub Recovery : Scale → Net → ℕ → ℕ → Link → ℕ → Type 0
 Recovery m net t k l r = Best (plain m) (at-risk k net) t (l .tail) r
+
+-- The link l at place k is backed up: some route from its tail to t avoids all that is at risk with k.
+abbrev pub BackedUp : Net → ℕ → ℕ → Link → Type 0
+BackedUp net t k l = ∥ ((ks : List ℕ) × Route net t (l .tail) ks × Clear (risks net k) ks) ∥₁
+
+-- The places are a route from u to t, and each of its links is backed up.
+abbrev pub ProtectedRoute : Net → ℕ → ℕ → List ℕ → Type 0
+ProtectedRoute net t u [] = u ≡ t
+ProtectedRoute net t u (k ∷ ks) =
+    (l : Link) × Holds net k l × (l .tail ≡ u) × BackedUp net t k l × ProtectedRoute net t (l .head) ks
 
 -- Worst values: each link, which must be backed up, makes the worse of r(k) and the extended value.
 abbrev pub worst : Scale → Net → ℕ → Valuation

@@ -1,7 +1,7 @@
 -- Routes, their values under any valuation, the best value, and the held route.
 use mathlib.Core.Path.{_≡_}
 use mathlib.Core.List.{List, [], _∷_}
-use mathlib.Core.Bool.{Bool, true}
+use mathlib.Core.Bool.{Bool, true, false}
 use Prim.Native.Nat.{ℕ, suc, _<_}
 use lib.Dec.{leb}
 use Rattle.std.specs.declared.option.Option.{Option}
@@ -13,6 +13,11 @@ use Rattle.definitions.specs.Networks.{Net, Holds}
 abbrev pub Route : Net → ℕ → ℕ → List ℕ → Type 0
 Route net t u [] = u ≡ t
 Route net t u (k ∷ ks) = (l : Link) × Holds net k l × (l .tail ≡ u) × Route net t (l .head) ks
+
+-- None of the places is one of which `gone` says true.
+abbrev pub Clear : (ℕ → Bool) → List ℕ → Type 0
+Clear gone [] = Unit {0}
+Clear gone (k ∷ ks) = (gone k ≡ false) × Clear gone ks
 
 -- How a route is valued: what the empty route has, what the link l at place k makes of the value v of
 -- the rest of the route (it makes w; a link may make nothing), and which of two values is no worse.

@@ -1,6 +1,11 @@
+// The types that all crates share: links, failures and fault codes. The specs beside them define networks, measures,
+// routes, guarantees, backups and traces, and `theorems` has what is proved of these definitions.
+pub mod theorems;
+
 ghost use mathlib.Core.Path.{_≡_};
 ghost use Rattle.std.specs.declared.option.Option.the-variants.{Some};
 ghost use Rattle.definitions.specs.Networks.{in-group};
+
 // A link: the nodes it joins, its figure, and the risk groups it belongs to (bit b: group b).
 #[derive(Clone, Copy, Drop)]
 pub struct Link {
@@ -10,12 +15,15 @@ pub struct Link {
     pub groups: u32,
 }
 
+// How many risk groups there are: one for each bit of a link's groups.
+pub const GROUP_COUNT: u16 = 32;
+
 impl Link {
-    // Does the link belong to risk group b? No link belongs to a group beyond 31.
+    // Does the link belong to risk group b? No link belongs to a group that there is not.
     pub fn in_group(self, b: u16) -> bool
         ensures { λ r. ⌜ r ≡ in-group b (Some self) ⌝ }
     {
-        b < 32 && (self.groups >> u32::from(b)) & 1 == 1
+        b < GROUP_COUNT && (self.groups >> u32::from(b)) & 1 == 1
     }
 }
 
@@ -34,49 +42,4 @@ pub enum Failure {
     Nothing,
     OneLink(u16),
     OneGroup(u16),
-}
-
-ghost use Rattle.definitions.specs.Theorems.{TraceIsSafe, TraceIsTight, TraceIsOne, HeldIsRight, TraceMeetsGuarantee};
-ghost use Rattle.definitions.specs.Example.{AllCases, table};
-
-// A trace keeps clear of what has failed, and is never worse than the guarantee.
-pub fn trace_is_safe() -> bool
-    ensures { λ _. ⌜ TraceIsSafe ⌝ }
-{
-    true
-}
-
-// Some failure makes the trace as bad as the guarantee.
-pub fn trace_is_tight() -> bool
-    ensures { λ _. ⌜ TraceIsTight ⌝ }
-{
-    true
-}
-
-// For each failure there is one trace.
-pub fn trace_is_one() -> bool
-    ensures { λ _. ⌜ TraceIsOne ⌝ }
-{
-    true
-}
-
-// The held route of a node is one, and has the node's guarantee.
-pub fn held_route_is_right() -> bool
-    ensures { λ _. ⌜ HeldIsRight ⌝ }
-{
-    true
-}
-
-// The cases of the example network hold.
-pub fn example_holds() -> bool
-    ensures { λ _. ⌜ AllCases 3 table ⌝ }
-{
-    true
-}
-
-// Some failure makes the trace as bad as the guarantee, with nothing assumed to exist.
-pub fn trace_meets_guarantee() -> bool
-    ensures { λ _. ⌜ TraceMeetsGuarantee ⌝ }
-{
-    true
 }
