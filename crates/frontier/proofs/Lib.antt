@@ -1,0 +1,10 @@
+pub mod Orders
+pub mod Stored
+pub mod Tallies
+pub mod Offering
+pub mod Searching
+pub mod Hopping
+pub mod Walking
+pub mod Indexing
+pub mod Plains
+pub mod Worsts

@@ -1,0 +1,3 @@
+pub mod Copying
+pub mod Leading
+pub mod Walking
