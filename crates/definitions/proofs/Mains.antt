@@ -91,14 +91,14 @@ recovery-exists m M net N t k l = (
 
 module _ (m : Scale) (M : Laws m) (net : Net) (N : Limits net) (t : ℕ) where
   -- A route has a worst value exactly where all its links are backed up.
-  protected-value : (u : ℕ) (ks : List ℕ) → ProtectedRoute net t u ks → (w : ℕ) × RouteValue (worst m net t) net t u ks w
+  pub protected-value : (u : ℕ) (ks : List ℕ) → ProtectedRoute net t u ks → (w : ℕ) × RouteValue (worst m net t) net t u ks w
   protected-value u [] p = (m .start, (p, refl))
   protected-value u (k ∷ ks) (l, h, e, b, r) =
       let (v, V) = protected-value (l .head) ks r in
       let (x, R) = recovery-exists m M net N t k l .0 b in
       (worse m x (m .extend v (l .figure)), (l, v, h, e, V, (x, R, refl)))
 
-  value-protected : (u : ℕ) (ks : List ℕ) (w : ℕ) → RouteValue (worst m net t) net t u ks w → ProtectedRoute net t u ks
+  pub value-protected : (u : ℕ) (ks : List ℕ) (w : ℕ) → RouteValue (worst m net t) net t u ks w → ProtectedRoute net t u ks
   value-protected u [] w (p, q) = p
   value-protected u (k ∷ ks) w (l, v, h, e, V, (r, R, q)) =
       (l, h, e, recovery-exists m M net N t k l .1 (r, R), value-protected (l .head) ks v V)

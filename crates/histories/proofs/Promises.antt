@@ -18,7 +18,7 @@ use Rattle.definitions.specs.declared.Failure.the-variants.{Nothing, OneLink, O
 use Rattle.definitions.specs.Networks.{Net, Holds, Limits, without, failed}
 use Rattle.definitions.specs.Measures.{Scale, Laws}
 use Rattle.definitions.specs.Routes.{Route, RouteValue, Held, Best}
-use Rattle.definitions.specs.Plans.{plain, worst, Guarantee, Traced}
+use Rattle.definitions.specs.Plans.{plain, worst, ProtectedRoute, Guarantee, Traced}
 use Rattle.definitions.proofs.Fixpoint.{label-best, label-bound, best-label, best-one}
 use Rattle.definitions.proofs.Layers.{without-limits, below}
 use Rattle.definitions.proofs.Lawfuls.{Value, worst-lawful}
@@ -33,9 +33,10 @@ use Rattle.routes.proofs.Leading.{some-one}
 use Rattle.histories.specs.Questions.{Asks, Finds, Reads, Fails, Fits}
 use Rattle.histories.specs.State.{State, marked, in-service, Stands, PlanRight, Right}
 use Rattle.histories.specs.Answers.{GuaranteeAnswer, RouteAnswer, TraceAnswer}
-use Rattle.histories.specs.Promise.{AllBackedUp, BestHeld, RefusedRightly, FailureReaches, SafeTrace, TraceAccepted, RouteHeld, GuaranteePromise, RoutePromise, TracePromise}
+use Rattle.histories.specs.Promise.{BestHeld, RefusedRightly, FailureReaches, SafeTrace, TraceAccepted, RouteHeld, GuaranteePromise, RoutePromise, TracePromise}
 use Rattle.histories.proofs.Plain.{apart, ok-err, ok-one, err-one}
-use Rattle.histories.proofs.Safety.{value-one, backed-value, value-backed}
+use Rattle.histories.proofs.Safety.{value-one}
+use Rattle.definitions.proofs.Mains.{protected-value, value-protected}
 use Rattle.definitions.proofs.Always.{backups}
 
 -- Where a plan to t stands and there is the node, what is left is whether it has a guarantee.
@@ -66,15 +67,15 @@ module _ (m : Scale) (M : Laws m) (s : State) (N : Limits (s .net)) (R : Right m
   guarantee-one a b A B = best-one (worst m (in-service s) t) (in-service s) t Value (worst-lawful m M (in-service s) limits t) u a b A B
 
   -- a backed-up route gives a guarantee
-  backed-guarantee : (js : List ℕ) → Route (in-service s) t u js → AllBackedUp (in-service s) t js → (g : ℕ) × Guarantee m (in-service s) t u g
-  backed-guarantee js P B =
-      let (v, W) = backed-value m M (in-service s) limits t u js P B in
+  backed-guarantee : (js : List ℕ) → ProtectedRoute (in-service s) t u js → (g : ℕ) × Guarantee m (in-service s) t u g
+  backed-guarantee js P =
+      let (v, W) = protected-value m M (in-service s) limits t u js P in
       let (a, e, le) = label-bound (worst m (in-service s) t) (in-service s) t Value (worst-lawful m M (in-service s) limits t) (value-of (s .records)) (recorded .labels) u js v W in
       (a, label-best (worst m (in-service s) t) (in-service s) t Value (worst-lawful m M (in-service s) limits t) (value-of (s .records)) (recorded .labels) u a e)
 
   -- and a guarantee is that of a backed-up route
-  guarantee-backed : (g : ℕ) → Guarantee m (in-service s) t u g → ((js : List ℕ) → Route (in-service s) t u js → AllBackedUp (in-service s) t js → ⊥) → ⊥
-  guarantee-backed g G none = ∥∥₁-elim (G .reached) ⊥-prop (λ (ks, W). let (P, B) = value-backed m M (in-service s) limits t u ks g W in none ks P B)
+  guarantee-backed : (g : ℕ) → Guarantee m (in-service s) t u g → ((js : List ℕ) → ProtectedRoute (in-service s) t u js → ⊥) → ⊥
+  guarantee-backed g G none = ∥∥₁-elim (G .reached) ⊥-prop (λ (ks, W). none ks (value-protected m M (in-service s) limits t u ks g W))
 
   -- a node with a guarantee has a held route
   pub guarantee-held : (g : ℕ) → Guarantee m (in-service s) t u g → (ks : List ℕ) × Held (worst m (in-service s) t) (in-service s) t u ks
@@ -89,7 +90,7 @@ module _ (m : Scale) (M : Laws m) (s : State) (N : Limits (s .net)) (R : Right m
     places = ks;
     held = H;
     value = held-value (worst m (in-service s) t) (in-service s) t Value (worst-lawful m M (in-service s) limits t) u ks g G H;
-    others = λ js P B. let (v, W) = backed-value m M (in-service s) limits t u js P B in (v, W, G .unbeaten js v W);
+    others = λ js P. let (v, W) = protected-value m M (in-service s) limits t u js P in (v, W, G .unbeaten js v W);
   }
 
   near-there : (c : ℕ) (f : Failure) → Near m M (in-service s) limits t c f → Fails (s .net) f (λ e. ⊥) (Unit {0})
@@ -124,7 +125,7 @@ module _ (m : Scale) (M : Laws m) (s : State) (N : Limits (s .net)) (R : Right m
         fault = λ f q. absurd (ok-err r g f e q);
       }
       | inr (none, e) ↦ record {
-        exactly = (λ x js P B. (let (g, G) = backed-guarantee js P B in none g G), λ x. ap isOk e);
+        exactly = (λ x js P. (let (g, G) = backed-guarantee js P in none g G), λ x. ap isOk e);
         fault = λ f q. ap planner-code (sym (err-one {A = ℕ} (NoGuarantee u) f (sym e ∙ q)));
       }
     ]
@@ -163,7 +164,7 @@ module _ (m : Scale) (M : Laws m) (s : State) (N : Limits (s .net)) (R : Right m
     unfolding best-held
     route-promised = record {
       answered = λ c e. go c e routed;
-      accepted = λ js P B. let (g, G) = backed-guarantee js P B in (g, route-held g G);
+      accepted = λ js P. let (g, G) = backed-guarantee js P in (g, route-held g G);
     }
       where
         go : (c : ℕ) → r ≡ Ok c → ((g : ℕ) × Guarantee m (in-service s) t u g × Routing t) ⊎ (((g : ℕ) → Guarantee m (in-service s) t u g → ⊥) × Declining (NoGuarantee u)) →
@@ -237,5 +238,5 @@ module _ (m : Scale) (M : Laws m) (s : State) (N : Limits (s .net)) (R : Right m
     pub trace-promised : TracePromise m (s .net) (in-service s) t u f tr buffer buffer′
     trace-promised = record {
       answered = λ w c e. let (g, G, S) = trace-answered w c e in let (ks, H) = guarantee-held g G in (g, best-held g G ks H, S);
-      accepted = λ js P B. let (g, G) = backed-guarantee js P B in trace-accepted g G;
+      accepted = λ js P. let (g, G) = backed-guarantee js P in trace-accepted g G;
     }

@@ -1,6 +1,6 @@
 -- What guarantee, route and trace promise, in terms of all routes to the destination of the plan that stands.
 use mathlib.Core.Path.{_≡_}
-use mathlib.Core.List.{List, [], _∷_}
+use mathlib.Core.List.{List}
 use mathlib.Core.Bool.{true, false}
 use mathlib.Core.Logic.{_↔_}
 use Prim.Native.Nat.{ℕ, _<_, _≤_}
@@ -8,27 +8,17 @@ use lib.ListN.{length}
 use Rattle.std.specs.declared.result.Result.{Result}
 use Rattle.std.specs.declared.result.Result.the-variants.{Ok, Err}
 use Rattle.std.specs.Results.{isOk}
-use Rattle.definitions.specs.declared.Link.{Link}
 use Rattle.definitions.specs.declared.Failure.{Failure}
-use Rattle.definitions.specs.Networks.{Net, Holds, without, at-risk, failed}
+use Rattle.definitions.specs.Networks.{Net, without, failed}
 use Rattle.definitions.specs.Measures.{Scale}
 use Rattle.definitions.specs.Routes.{Route, RouteValue, Held}
-use Rattle.definitions.specs.Plans.{plain, worst, Traced}
+use Rattle.definitions.specs.Plans.{plain, worst, ProtectedRoute, Traced}
 use Rattle.histories.specs.declared.fault.PlannerFault.{PlannerFault}
 use Rattle.histories.specs.Faults.{planner-code}
 use Rattle.histories.specs.State.{State}
 use Rattle.histories.specs.Questions.{Fails}
 use Rattle.histories.specs.Histories.{AfterAnyCalls}
 use Rattle.routes.specs.Walks.{written}
-
--- The link at place k is backed up: with it and all that shares a risk group with it gone, a route leads from its tail to t.
-abbrev pub BackedUp : Net → ℕ → ℕ → Type 0
-BackedUp net t k = (l : Link) × (js : List ℕ) × Holds net k l × Route (at-risk k net) t (l .tail) js
-
--- Each link of the places is backed up.
-abbrev pub AllBackedUp : Net → ℕ → List ℕ → Type 0
-AllBackedUp net t [] = Unit {0}
-AllBackedUp net t (k ∷ ks) = BackedUp net t k × AllBackedUp net t ks
 
 -- The places are a route from u to t with all links backed up, and its worst value is v.
 abbrev pub WorstValue : Scale → Net → ℕ → ℕ → List ℕ → ℕ → Type 0
@@ -43,11 +33,11 @@ pub record BestHeld (m : Scale) (net : Net) (t u g : ℕ) : Type 0 where
   pub places : List ℕ
   pub held : Held (worst m net t) net t u places
   pub value : WorstValue m net t u places g
-  pub others : (js : List ℕ) → Route net t u js → AllBackedUp net t js → (v : ℕ) × WorstValue m net t u js v × (m .no-worse g v ≡ true)
+  pub others : (js : List ℕ) → ProtectedRoute net t u js → (v : ℕ) × WorstValue m net t u js v × (m .no-worse g v ≡ true)
 
 -- A guarantee is refused exactly where no route from the node has a backup for each link; the number is then 14.
 pub record RefusedRightly (net : Net) (t u : ℕ) (r : Result ℕ PlannerFault) : Type 0 where
-  pub exactly : (isOk r ≡ false) ↔ ((js : List ℕ) → Route net t u js → AllBackedUp net t js → ⊥)
+  pub exactly : (isOk r ≡ false) ↔ ((js : List ℕ) → ProtectedRoute net t u js → ⊥)
   pub fault : (f : PlannerFault) → r ≡ Err f → planner-code f ≡ record { layer = 3; number = 14; place = u }
 
 -- For some failure that a trace accepts, or for none, the places that the trace takes have the plain value g.
@@ -90,13 +80,13 @@ pub record GuaranteePromise (m : Scale) (n net : Net) (t u : ℕ) (r : Result �
 -- What route answers for u and leaves in the buffer: the held route, wherever some route has a backup for each link.
 pub record RoutePromise (m : Scale) (net : Net) (t u : ℕ) (r : Result ℕ PlannerFault) (buffer buffer′ : List ℕ) : Type 0 where
   pub answered : (c : ℕ) → r ≡ Ok c → (g : ℕ) × (b : BestHeld m net t u g) × (c ≡ length (b .places)) × (buffer′ ≡ written (b .places) buffer)
-  pub accepted : (js : List ℕ) → Route net t u js → AllBackedUp net t js → (g : ℕ) × RouteHeld m net t u g r buffer buffer′
+  pub accepted : (js : List ℕ) → ProtectedRoute net t u js → (g : ℕ) × RouteHeld m net t u g r buffer buffer′
 
 -- What trace answers for u under the failure f and leaves in the buffer: a safe trace, no worse than the guarantee, wherever
 -- some route has a backup for each link.
 pub record TracePromise (m : Scale) (n net : Net) (t u : ℕ) (f : Failure) (r : Result (ℕ × ℕ) PlannerFault) (buffer buffer′ : List ℕ) : Type 0 where
   pub answered : (w c : ℕ) → r ≡ Ok (w, c) → (g : ℕ) × BestHeld m net t u g × SafeTrace m net t u f g w c buffer buffer′
-  pub accepted : (js : List ℕ) → Route net t u js → AllBackedUp net t js → TraceAccepted m n net t u f r buffer
+  pub accepted : (js : List ℕ) → ProtectedRoute net t u js → TraceAccepted m n net t u f r buffer
 
 -- The same over whatever list of calls led to the state s.
 abbrev pub GuaranteeHistory : Scale → State → ℕ → Result ℕ PlannerFault → Type 0

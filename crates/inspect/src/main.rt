@@ -1,10 +1,20 @@
-// Looks at the map in `net.map`: says what network it holds, or why it is no map.
+// Looks at the map in `net.map`: says what network it holds, or why it is no map. With a node's number as its argument it also
+// says the best delay and the best width from every node to that one.
+use frontier::lists::at;
 use maps::fault::MapFault;
 use maps::map::Map;
 use maps::map::MapNetwork;
 use maps::writing::rewrite;
+use measures::Delay;
+use measures::DelayMeasure;
+use measures::Measure;
+use measures::Width;
+use measures::WidthMeasure;
 use networks::draft::DraftFault;
 use networks::network::Network;
+use search::tables::Workspace;
+use search::tables::plain_values;
+use std::env;
 use std::fs;
 use std::io;
 use std::io::Read;
@@ -97,6 +107,43 @@ fn print_copy(rt: &LibcRuntime, bytes: &[u8]) -> io::Result<()> {
     }
 }
 
+// The best plain values of all nodes to a destination.
+fn print_values<M: Measure>(
+    rt: &LibcRuntime,
+    map: &Map,
+    destination: u16,
+    name: &str,
+) -> io::Result<()> {
+    let mut values = [None; 256];
+    let mut workspace = Workspace::new();
+    if !plain_values::<Map, M>(map, destination, &mut values, &mut workspace) {
+        return println!(rt, "There is no node {destination}.");
+    }
+    for node in 0..map.node_count() {
+        match at(&values, node) {
+            Some(value) => println!(rt, "Best {name} from node {node} to node {destination}: {value}.")?,
+            None => println!(rt, "No route from node {node} to node {destination}.")?,
+        }
+    }
+    Ok(())
+}
+
+// The best values to the node that the argument names, if there is one.
+fn print_argument(rt: &LibcRuntime, map: &Map) -> io::Result<()> {
+    let mut words = env::args(rt)?;
+    let _ = words.next();
+    let Some(word) = words.next() else {
+        return Ok(());
+    };
+    match word.parse::<u16>() {
+        Ok(destination) => {
+            print_values::<Delay>(rt, map, destination, "delay")?;
+            print_values::<Width>(rt, map, destination, "width")
+        }
+        Err(_) => println!(rt, "{word} is no node's number."),
+    }
+}
+
 fn main(rt: LibcRuntime) -> io::Result<()> {
     let bytes = read_map(&rt)?;
     if let Err(fault) = Map::check(&bytes) {
@@ -114,5 +161,6 @@ fn main(rt: LibcRuntime) -> io::Result<()> {
     if let Ok(nodes) = u16::try_from(nodes) {
         print_ends(&rt, &map, nodes)?;
     }
-    print_copy(&rt, &bytes)
+    print_copy(&rt, &bytes)?;
+    print_argument(&rt, &map)
 }

@@ -32,6 +32,8 @@ pub record AnswersRight (m : Scale) (n net : Net) (t u : ℕ) (f : Failure) (a :
 pub record RightAfterCalls (m : Scale) (n : Net) (u : ℕ) (f : Failure) (asked events : List Event) (a : Answers) (route route′ trace trace′ : List ℕ) : Type 0 where
   pub calls : map (λ e. e .call) events ≡ map (λ e. e .call) asked
   pub ran : Ran m n (reverse events)
+  -- which links are withdrawn is always decided
+  pub withdrawn : (w : ℕ → Bool) × Marks (reverse events) w
   pub promise : (t : ℕ) → Standing (reverse events) t → (w : ℕ → Bool) → Marks (reverse events) w → u < n .nodes →
       AnswersRight m n (without w n) t u f a route route′ trace trace′
 

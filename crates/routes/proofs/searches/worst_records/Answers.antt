@@ -19,3 +19,9 @@ returns g c =
     let lt : t < net .nodes = omega (arith, c .node-count .ensures, c .if-destination-node-count .left) in
     let all : length (c .args .records .now) ≡ 256 = omega arith in
     inl (lt, all, refl, recorded _ _ _ (worst (g .M·Measure .scale) net t) net t _ (found .labels) (found .nexts) (c .write-records .ensures))
+
+-- The search refuses only a destination that is no node.
+pub returns-then-not-worst-tables : need.returns-then-not-worst-tables
+returns-then-not-worst-tables g c =
+    let no = c .if-not-worst-tables .ensures tt in
+    absurd (omega (arith, no .0, c .node-count .ensures, c .if-destination-node-count .left))
