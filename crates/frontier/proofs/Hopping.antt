@@ -1,9 +1,9 @@
 -- A search for next links, as it offers the places one by one.
 use mathlib.Core.Path.{_≡_, refl, sym, _∙_, ap, subst}
 use mathlib.Core.Bool.{Bool, true, false}
-use mathlib.Core.List.{List, [], _∷_}
-use mathlib.Core.Logic.{_⊎_, inl, inr}
-use Prim.Native.Nat.{ℕ, suc, _+_, _<_, _≤_}
+use mathlib.Core.List.{List, _∷_}
+use mathlib.Core.Logic.{inl, inr}
+use Prim.Native.Nat.{ℕ, _+_, _<_, _≤_}
 use native.Mathlib.Omega.{arith}
 use native.Mathlib.Decide.{ℕ-discrete}
 use lib.ListN.{length}
@@ -16,7 +16,7 @@ use Rattle.std.specs.Slices.{Shuffled}
 use Rattle.std.specs.shelf.Lists.{Has}
 use Rattle.std.proofs.shelf.Sorted.{length-shuffled}
 use Rattle.definitions.specs.declared.Link.{Link}
-use Rattle.definitions.specs.Networks.{Net, Holds, place}
+use Rattle.definitions.specs.Networks.{Net, place}
 use Rattle.definitions.specs.Measures.{Scale, worse}
 use Rattle.definitions.specs.Routes.{Valuation, Tight}
 use Rattle.definitions.specs.Searches.{given, Labels, Stepping}
@@ -35,7 +35,7 @@ use Rattle.frontier.specs.Orders.{StepsBefore}
 use Rattle.frontier.specs.Offers.{made}
 use Rattle.frontier.specs.Progress.{Due, links-into, Hopping, HopOffering}
 use Rattle.frontier.specs.Hops.{LabelTight, HopOffered}
-use Rattle.frontier.proofs.Offering.{due-more, due-down, None-between, holds-inside, into, into-hit}
+use Rattle.frontier.proofs.Offering.{due-more, due-down, None-between, into, into-hit}
 use Rattle.frontier.proofs.Tallies.{tally-step, tally-hit, tally-front}
 
 module _ (ρ : Valuation) (net : Net) (d s : ℕ → Option ℕ) (from : Settled) where

@@ -1,7 +1,7 @@
 -- A search for values, as it offers the places one by one.
 use mathlib.Core.Path.{_≡_, refl, sym, _∙_, ap, subst}
-use mathlib.Core.List.{List, [], _∷_}
-use mathlib.Core.Logic.{_⊎_, inl, inr}
+use mathlib.Core.List.{List, _∷_}
+use mathlib.Core.Logic.{inl, inr}
 use mathlib.Core.Bool.{Bool, true, false}
 use Prim.Native.Nat.{ℕ, _+_, _<_, _≤_}
 use native.Mathlib.Omega.{arith}
@@ -34,7 +34,7 @@ use Rattle.frontier.specs.Orders.{ValueBefore}
 use Rattle.frontier.specs.Offers.{Fitting, Offered}
 use Rattle.frontier.specs.Progress.{Waiting, Due, Offering, leads-to, links-into, above, Owns}
 use Rattle.frontier.specs.Indexes.{UpTo, Indexed}
-use Rattle.frontier.proofs.Tallies.{tally-none, tally-step, tally-hit, tally-front}
+use Rattle.frontier.proofs.Tallies.{tally-step, tally-hit, tally-front}
 
 -- a place that holds a link is one of the places
 pub holds-inside : (net : Net) (k : ℕ) (l : Link) → Holds net k l → k < length (net .places)

@@ -1,8 +1,8 @@
 -- The search for the best values, turn by turn.
-use mathlib.Core.Path.{_≡_, refl, sym, _∙_, ap, subst}
+use mathlib.Core.Path.{_≡_, sym, _∙_, ap, subst}
 use mathlib.Core.Bool.{true}
 use mathlib.Core.List.{List, [], _∷_}
-use mathlib.Core.Logic.{_⊎_, inl, inr, ⊎-elim, ∥∥₁-elim}
+use mathlib.Core.Logic.{_⊎_, ⊎-elim, ∥∥₁-elim}
 use Prim.Native.Nat.{ℕ, _+_, _<_, _≤_}
 use native.Mathlib.Omega.{arith}
 use native.Mathlib.Bridge.{le-prop}
@@ -10,11 +10,11 @@ use lib.ListN.{length, set, length-set}
 use Rattle.std.specs.declared.option.Option.{Option}
 use Rattle.std.specs.declared.option.Option.the-variants.{Some, None}
 use Rattle.std.specs.Slices.{Shuffled}
-use Rattle.std.specs.shelf.Lists.{All, Has}
+use Rattle.std.specs.shelf.Lists.{All}
 use Rattle.std.proofs.shelf.Elements.{all-has}
 use Rattle.std.proofs.shelf.Sorted.{length-shuffled}
 use Rattle.definitions.specs.declared.Link.{Link}
-use Rattle.definitions.specs.Networks.{Net, Holds, Limits, place}
+use Rattle.definitions.specs.Networks.{Net, Limits, place}
 use Rattle.definitions.specs.Measures.{Scale, Laws}
 use Rattle.definitions.specs.Routes.{Valuation}
 use Rattle.definitions.specs.Searches.{given, Running, Labels}

@@ -1,23 +1,22 @@
 -- The search for next links, turn by turn.
-use mathlib.Core.Path.{_≡_, refl, sym, _∙_, ap, subst}
+use mathlib.Core.Path.{_≡_, sym, _∙_, ap, subst}
 use mathlib.Core.List.{List, [], _∷_}
 use mathlib.Core.Logic.{_⊎_, inl, inr, ⊎-elim}
-use Prim.Native.Nat.{ℕ, suc, _+_, _<_, _≤_}
+use Prim.Native.Nat.{ℕ, _+_, _<_, _≤_}
 use native.Mathlib.Omega.{arith}
 use native.Mathlib.Decide.{ℕ-discrete}
 use lib.ListN.{length, set, length-set}
 use Rattle.std.specs.declared.option.Option.{Option}
 use Rattle.std.specs.declared.option.Option.the-variants.{Some, None}
 use Rattle.std.specs.Slices.{Shuffled}
-use Rattle.std.specs.shelf.Lists.{All, Has}
+use Rattle.std.specs.shelf.Lists.{All}
 use Rattle.std.proofs.shelf.Elements.{all-has}
 use Rattle.std.proofs.shelf.Sorted.{length-shuffled}
 use Rattle.std.proofs.shelf.Tests.{cases-lt}
 use Rattle.definitions.specs.declared.Link.{Link}
 use Rattle.definitions.specs.Networks.{Net, Holds, Limits, place}
-use Rattle.definitions.specs.Routes.{Valuation, Tight}
+use Rattle.definitions.specs.Routes.{Valuation}
 use Rattle.definitions.specs.Searches.{Labels, Stepping, Nexts}
-use Rattle.definitions.proofs.Layers.{same-link}
 use Rattle.definitions.proofs.Settling.{not-both}
 use Rattle.definitions.proofs.Stepwise.{fewer-due, begins, skips, settles, ends}
 use Rattle.heap.specs.declared.Heap.{Heap}
@@ -28,7 +27,7 @@ use Rattle.frontier.specs.declared.entries.Settled.{Settled}
 use Rattle.frontier.specs.declared.entries.Hop.{Hop}
 use Rattle.frontier.specs.Orders.{StepsBefore}
 use Rattle.frontier.specs.Hops.{NoNext}
-use Rattle.frontier.specs.Progress.{Due, leads-on, links-into, links-open, Hopping, HopOffering, Walking}
+use Rattle.frontier.specs.Progress.{Due, leads-on, links-open, Hopping, HopOffering, Walking}
 use Rattle.frontier.proofs.Offering.{holds-inside}
 use Rattle.frontier.proofs.Searching.{settle-room}
 use Rattle.frontier.proofs.Stored.{place-set-same, place-set-other}

@@ -1,7 +1,7 @@
 -- The two orders of heap entries: candidates by value, then by node; links by steps, then by number.
 use mathlib.Core.Path.{_≡_}
 use mathlib.Core.Bool.{true}
-use Prim.Native.Nat.{ℕ, _≤_, _<_, _^_}
+use Prim.Native.Nat.{_≤_, _<_, _^_}
 use Rattle.definitions.specs.Measures.{Scale}
 use Rattle.frontier.specs.declared.entries.Candidate.{Candidate}
 use Rattle.frontier.specs.declared.entries.Hop.{Hop}

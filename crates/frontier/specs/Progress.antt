@@ -1,7 +1,7 @@
 -- How far a loop has come: what holds of the index while it is made, and of the two searches between their turns.
 -- No promise of a public call rests on these.
 use mathlib.Core.Path.{_≡_}
-use mathlib.Core.Bool.{Bool, true, false, cond, not}
+use mathlib.Core.Bool.{Bool, false, cond, not}
 use mathlib.Core.List.{List}
 use Prim.Native.Nat.{ℕ, zero, suc, _+_, _<_, _≤_}
 use lib.Dec.{eqb}

@@ -1,8 +1,4 @@
 // The heap entries of the two searches, and their orders.
-ghost use mathlib.Core.Path.{_≡_};
-ghost use mathlib.Core.Logic.{_⊎_};
-ghost use Prim.Native.Nat.{ℕ, _^_, _<_, _≤_};
-ghost use Rattle.std.specs.Orderings.{Decides};
 ghost use Rattle.frontier.specs.Orders.{ValueFits, ValueBefore, StepsBefore};
 use heap::Order;
 use measures::Measure;

@@ -5,10 +5,6 @@ use mathlib.Core.Logic.{_⊎_, inl, inr}
 use mathlib.Core.List.{List, [], _∷_, _++_, append-assoc, append-nil}
 use mathlib.Core.Bool.{Bool, true, false, cond}
 use native.Mathlib.Omega.{arith}
-use lib.Dec.{eqb}
-use lib.Bits.{bitAnd, and-mask}
-use lib.Pow.{pow-mono, pow-pos}
-use native.Mathlib.Nat.{div-lt-iff-lt-mul}
 use lib.ListN.{length, getD, take, drop, set, length-append, length-take}
 use Rattle.std.proofs.shelf.Lists.{take-more-set, drop-more}
 use Rattle.std.specs.Options.{isSome}
@@ -120,14 +116,3 @@ traced-turn m net nx t v u f (k ∷ js) is bs (l, K, H) (i, n, h, P) (a, s) T =
 pub some-there : {A : Type 0} (o : Option A) → isSome o ≡ true → (x : A) × (o ≡ Some x)
 some-there None e = let z : _≡_ {A = ℕ} 0 1 = cc in absurd (omega arith)
 some-there (Some x) e = (x, refl)
-
--- The bit of a group in a link's groups.
-pub group-failed : (net : Net) (k b : ℕ) (l : Link) → Holds net k l → eqb (bitAnd (l .groups / 2 ^ b) 1) 1 ≡ failed net (OneGroup b) k
-group-failed net k b l h = ap (λ x. eqb x 1) (and-mask (l .groups / 2 ^ b) 1) ∙ sym (ap (in-group b) h)
-
-pub group-beyond : (net : Net) (k b : ℕ) (l : Link) → Holds net k l → l .groups < 2 ^ 32 → 32 ≤ b → false ≡ failed net (OneGroup b) k
-group-beyond net k b l h lt le =
-    let wide : 2 ^ 32 ≤ 2 ^ b = pow-mono le in
-    let less : l .groups / 2 ^ b < 1 = div-lt-iff-lt-mul {k = 2 ^ b} {x = l .groups} {y = 1} (pow-pos b) .1 (omega arith) in
-    let small : l .groups / 2 ^ b ≡ 0 = omega arith in
-    sym (ap (in-group b) h ∙ ap (λ x. eqb (x % 2) 1) small)

@@ -102,7 +102,7 @@ pub fn has_failed<N: Network>(network: &N, failure: Failure, k: usize) -> bool
         Failure::Nothing => false,
         Failure::OneLink(j) => k == usize::from(j),
         Failure::OneGroup(b) => match network.place(k) {
-            Some(link) => b < 32 && (link.groups >> u32::from(b)) & 1 == 1,
+            Some(link) => link.in_group(b),
             None => false,
         },
     }

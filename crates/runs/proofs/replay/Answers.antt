@@ -1,6 +1,6 @@
 use mathlib.Core.Path.{_≡_, refl, sym, ap, subst, _∙_}
 use mathlib.Core.Bool.{false}
-use mathlib.Core.List.{reverse}
+use mathlib.Core.List.{[], reverse}
 use Prim.Native.Nat.{_<_}
 use native.Mathlib.Omega.{arith}
 use lib.ListN.{length, take, getD}
@@ -9,7 +9,6 @@ use Rattle.planner.specs.Planners.{state, network-of}
 use Rattle.histories.specs.Histories.{After, Ran}
 use Rattle.histories.specs.declared.call.Call.the-variants as call
 use Rattle.histories.specs.declared.call.Event.{Event}
-use Rattle.histories.proofs.History.{opened}
 use Rattle.runs.proofs.Replaying.{replay-more, same-calls}
 use Rattle.runs.proofs.replay.Needs as need
 
@@ -17,7 +16,7 @@ pub loop-event-holds : need.loop-event-holds
 loop-event-holds g c =
     let p = c .in-Continue-planner .planner in
     let new = c .in-Continue-planner .ensures tt in
-    (tt, opened (g .M·Measure .scale) (g .N·Network .meaning (network-of p)) (state (g .N·Network .meaning) p) (rw (← new .0) at (new .1)), refl, refl)
+    (tt, subst (λ x. After (g .M·Measure .scale) (g .N·Network .meaning x) [] (state (g .N·Network .meaning) p)) (sym (new .0)) (new .2), refl, refl)
 
 pub loop-event-again : need.loop-event-again
 loop-event-again g c =

@@ -1,11 +1,11 @@
-use mathlib.Core.Path.{_≡_, refl, subst, _∙_}
+use mathlib.Core.Path.{_≡_, subst, _∙_}
 use mathlib.Core.List.{_∷_}
 use Prim.Native.Nat.{_+_, _-_, _<_}
 use native.Mathlib.Omega.{arith}
 use borrow.Author.Needs.{needs}
 use lib.ListN.{length, take}
 use Rattle.std.specs.Slices.{Shuffled}
-use Rattle.std.proofs.shelf.Lists.{length-take, length-take-le}
+use Rattle.std.proofs.shelf.Lists.{length-take}
 use Rattle.std.proofs.shelf.Sorted.{length-shuffled}
 use Rattle.heap.specs.Heaps.{Heaped}
 use Rattle.heap.proofs.Parts.{front, push-entries, push-order, length-one-more}

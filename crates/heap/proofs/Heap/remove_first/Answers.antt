@@ -1,13 +1,12 @@
-use mathlib.Core.Path.{_≡_, refl, sym, ap, subst, _∙_}
+use mathlib.Core.Path.{_≡_, sym, ap, subst, _∙_}
 use mathlib.Core.List.{_∷_}
-use Prim.Native.Nat.{_+_, _-_, _≤_}
+use Prim.Native.Nat.{_-_, _≤_}
 use native.Mathlib.Omega.{arith}
 use borrow.Author.Needs.{needs}
 use lib.ListN.{length, take}
 use Rattle.std.specs.Slices.{Shuffled}
 use Rattle.std.specs.shelf.Lists.{All}
 use Rattle.std.proofs.shelf.Lists.{length-take, length-take-le, take-append-le}
-use Rattle.std.proofs.shelf.Sorted.{length-shuffled}
 use Rattle.heap.specs.Heaps.{Heaped}
 use Rattle.heap.proofs.Parts.{clipped}
 use Rattle.heap.proofs.Heap.remove_first.Needs as need

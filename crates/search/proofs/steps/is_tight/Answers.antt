@@ -1,4 +1,4 @@
-use mathlib.Core.Path.{_≡_, sym, _∙_, ap}
+use mathlib.Core.Path.{sym, _∙_, ap}
 use Rattle.definitions.specs.Networks.{place}
 use Rattle.frontier.specs.Offers.{made}
 use Rattle.frontier.proofs.Hopping.{meeting-test}
