@@ -31,11 +31,16 @@ out : Withdrawn withdrawn-and-planned 4
 out = before _ (λ p e. p) (newest _ refl refl refl)
 
 ran : Ran (scale by-delay) (example 0) (refused 4 ∷ withdrawn-and-planned)
-ran =
-    ((λ w m. (not-true, again)),
-    ((λ w m. (λ e. inl (lit< tt, tt), λ a. refl)),
-    ((λ w m. (λ e. inl (link-4, refl, inl (nothing, tt)), λ a. refl)),
-    tt)))
+ran = (
+  (λ w m. (not-true, again)),
+  (
+    (λ w m. (λ e. inl (lit< tt, tt), λ a. refl)),
+    (
+      (λ w m. (λ e. inl (link-4, refl, inl (nothing, tt)), λ a. refl)),
+      tt,
+    ),
+  ),
+)
   where
     again : WithdrawCall (example 0) (Withdrawn withdrawn-and-planned 4) 4 (λ f. ⊥) (Unit {0}) → false ≡ true
     again (inl (l, h, inl (free, a))) = absurd (free out)

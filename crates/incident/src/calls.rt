@@ -71,7 +71,7 @@ fn incident(rt: &LibcRuntime, planner: &mut Planner<Book, Delay>) -> io::Result<
 }
 
 // Makes the calls on a planner over the network; gives the network back.
-pub fn call_by_call(rt: &LibcRuntime, network: Book) -> io::Result<Result<Book, Book>> {
+pub(crate) fn call_by_call(rt: &LibcRuntime, network: Book) -> io::Result<Result<Book, Book>> {
     match Planner::open(rt.alloc(), network) {
         Ok(mut planner) => {
             let told = incident(rt, &mut planner);

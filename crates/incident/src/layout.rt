@@ -7,7 +7,7 @@ use std::alloc::Global;
 
 // Five nodes and nine links, given as tail, head, delay and groups. Links 1 and 3 lie in one duct, risk group 0. Link 6 is
 // the only way on from node 1 when that duct is cut.
-pub fn lay_out(heap: Global) -> Result<Book, DraftFault> {
+pub(crate) fn lay_out(heap: Global) -> Result<Book, DraftFault> {
     let mut draft = Draft::new(heap);
     draft.size(5)?;
     for (tail, head, figure, groups) in [

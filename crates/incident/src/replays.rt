@@ -64,7 +64,7 @@ fn replay_list(rt: &LibcRuntime, network: Book, events: &mut [Event]) -> io::Res
 }
 
 // The list with the withdraw sent twice, and the same list with the link put back before the plan.
-pub fn replay_lists(rt: &LibcRuntime, network: Book) -> io::Result<()> {
+pub(crate) fn replay_lists(rt: &LibcRuntime, network: Book) -> io::Result<()> {
     let mut twice = [
         asked(Call::Plan(4)),
         asked(Call::Withdraw(6)),

@@ -3,7 +3,7 @@ use histories::fault::PlannerFault;
 use std::io;
 
 // A refusal, by its number and place.
-pub fn tell_refusal(rt: &LibcRuntime, call: &str, fault: PlannerFault) -> io::Result<()> {
+pub(crate) fn tell_refusal(rt: &LibcRuntime, call: &str, fault: PlannerFault) -> io::Result<()> {
     let code = fault.code();
     println!(
         rt,
@@ -13,7 +13,11 @@ pub fn tell_refusal(rt: &LibcRuntime, call: &str, fault: PlannerFault) -> io::Re
 }
 
 // Whether a call that changes the planner was accepted.
-pub fn tell_done(rt: &LibcRuntime, call: &str, answer: Result<(), PlannerFault>) -> io::Result<()> {
+pub(crate) fn tell_done(
+    rt: &LibcRuntime,
+    call: &str,
+    answer: Result<(), PlannerFault>,
+) -> io::Result<()> {
     match answer {
         Ok(()) => println!(rt, "{call} is accepted."),
         Err(fault) => tell_refusal(rt, call, fault),
@@ -21,7 +25,7 @@ pub fn tell_done(rt: &LibcRuntime, call: &str, answer: Result<(), PlannerFault>)
 }
 
 // The links of a route.
-pub fn tell_links(
+pub(crate) fn tell_links(
     rt: &LibcRuntime,
     what: &str,
     answer: Result<usize, PlannerFault>,
@@ -40,7 +44,7 @@ pub fn tell_links(
 }
 
 // The value and the links of a trace.
-pub fn tell_trace(
+pub(crate) fn tell_trace(
     rt: &LibcRuntime,
     what: &str,
     answer: Result<(u64, usize), PlannerFault>,
@@ -56,7 +60,10 @@ pub fn tell_trace(
 }
 
 // The guarantee of a node.
-pub fn tell_guarantee(rt: &LibcRuntime, answer: Result<u64, PlannerFault>) -> io::Result<()> {
+pub(crate) fn tell_guarantee(
+    rt: &LibcRuntime,
+    answer: Result<u64, PlannerFault>,
+) -> io::Result<()> {
     match answer {
         Ok(value) => println!(rt, "The guarantee is {value}."),
         Err(fault) => tell_refusal(rt, "The guarantee", fault),

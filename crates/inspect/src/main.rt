@@ -121,7 +121,10 @@ fn print_values<M: Measure>(
     }
     for node in 0..map.node_count() {
         match at(&values, node) {
-            Some(value) => println!(rt, "Best {name} from node {node} to node {destination}: {value}.")?,
+            Some(value) => println!(
+                rt,
+                "Best {name} from node {node} to node {destination}: {value}."
+            )?,
             None => println!(rt, "No route from node {node} to node {destination}.")?,
         }
     }

@@ -36,13 +36,107 @@ mod tests {
         (&[0, 0, 255, 255], 2, 1, 0, 0),
         (&[0, 2, 4, 1], 2, 2, 1025, 2),
         (&[0, 2, 0, 1, 0, 0, 0, 1, 0, 0, 0, 1, 0, 0, 0], 2, 7, 15, 15),
-        (&[0, 2, 0, 1, 0, 0, 0, 1, 0, 0, 0, 1, 0, 0, 0, 0, 0], 2, 7, 16, 16),
+        (
+            &[0, 2, 0, 1, 0, 0, 0, 1, 0, 0, 0, 1, 0, 0, 0, 0, 0],
+            2,
+            7,
+            16,
+            16,
+        ),
         (&[0, 1, 0, 0, 9], 2, 7, 4, 4),
-        (&[0, 2, 0, 1, 0, 2, 0, 1, 0, 0, 0, 1, 0, 0, 0, 0], 1, 3, 0, 4),
-        (&[0, 2, 0, 1, 0, 0, 0, 2, 0, 0, 0, 1, 0, 0, 0, 0], 1, 4, 0, 6),
-        (&[0, 2, 0, 1, 0, 1, 0, 1, 0, 0, 0, 1, 0, 0, 0, 0], 1, 5, 0, 4),
-        (&[0, 2, 0, 2, 0, 0, 0, 9, 0, 9, 0, 1, 0, 0, 0, 1, 0, 0, 0, 0, 0, 0, 0, 1, 0, 0, 0, 0], 1, 4, 0, 6),
-        (&[0, 2, 0, 2, 0, 0, 0, 1, 0, 9, 0, 1, 0, 0, 0, 1, 0, 0, 0, 0, 0, 0, 0, 1, 0, 0, 0, 0], 1, 3, 1, 8),
+        (
+            &[0, 2, 0, 1, 0, 2, 0, 1, 0, 0, 0, 1, 0, 0, 0, 0],
+            1,
+            3,
+            0,
+            4,
+        ),
+        (
+            &[0, 2, 0, 1, 0, 0, 0, 2, 0, 0, 0, 1, 0, 0, 0, 0],
+            1,
+            4,
+            0,
+            6,
+        ),
+        (
+            &[0, 2, 0, 1, 0, 1, 0, 1, 0, 0, 0, 1, 0, 0, 0, 0],
+            1,
+            5,
+            0,
+            4,
+        ),
+        (
+            &[
+                0,
+                2,
+                0,
+                2,
+                0,
+                0,
+                0,
+                9,
+                0,
+                9,
+                0,
+                1,
+                0,
+                0,
+                0,
+                1,
+                0,
+                0,
+                0,
+                0,
+                0,
+                0,
+                0,
+                1,
+                0,
+                0,
+                0,
+                0,
+            ],
+            1,
+            4,
+            0,
+            6,
+        ),
+        (
+            &[
+                0,
+                2,
+                0,
+                2,
+                0,
+                0,
+                0,
+                1,
+                0,
+                9,
+                0,
+                1,
+                0,
+                0,
+                0,
+                1,
+                0,
+                0,
+                0,
+                0,
+                0,
+                0,
+                0,
+                1,
+                0,
+                0,
+                0,
+                0,
+            ],
+            1,
+            3,
+            1,
+            8,
+        ),
     ];
 
     #[test]
@@ -51,7 +145,14 @@ mod tests {
             match Map::check(bytes) {
                 Ok(()) => return Err(Fail::new("a damaged map passed")),
                 Err(fault) => {
-                    check_eq(fault.code(), FaultCode { layer, number, place })?;
+                    check_eq(
+                        fault.code(),
+                        FaultCode {
+                            layer,
+                            number,
+                            place,
+                        },
+                    )?;
                     check_eq(fault.byte(), byte)?;
                 }
             }
@@ -76,7 +177,12 @@ mod tests {
         let mut draft = Draft::new(heap);
         draft.size(2)?;
         for _ in 0..links {
-            draft.add(Link { tail: 0, head: 1, figure: 0, groups: 0 })?;
+            draft.add(Link {
+                tail: 0,
+                head: 1,
+                figure: 0,
+                groups: 0,
+            })?;
         }
         Ok(draft)
     }
@@ -84,7 +190,15 @@ mod tests {
     #[test]
     fn full_draft(rt: LibcRuntime) -> Result<(), Fail> {
         let mut draft = parallel_links(rt.alloc(), 1024)?;
-        check_eq(draft.add(Link { tail: 9, head: 9, figure: 0, groups: 0 }), Err(DraftFault::Full(1024)))?;
+        check_eq(
+            draft.add(Link {
+                tail: 9,
+                head: 9,
+                figure: 0,
+                groups: 0,
+            }),
+            Err(DraftFault::Full(1024)),
+        )?;
         let book = draft.close();
         check_eq(book.place_count(), 1024)?;
         let mut out = vec![in rt.alloc(); 7u8; 12_293]?;
@@ -93,7 +207,10 @@ mod tests {
         check(out.len() == 12_293)?;
         check_eq(out[12_292], 7)?;
         check_eq(Map::check(&out[0..12_292]), Ok(()))?;
-        check_eq(Map::check(&out[0..12_291]), Err(MapFault::WrongLength(12_291)))
+        check_eq(
+            Map::check(&out[0..12_291]),
+            Err(MapFault::WrongLength(12_291)),
+        )
     }
 
     #[test]
@@ -101,14 +218,62 @@ mod tests {
         let mut draft = Draft::new(rt.alloc());
         check_eq(draft.size(0), Err(DraftFault::NodeCount(0)))?;
         check_eq(draft.size(257), Err(DraftFault::NodeCount(257)))?;
-        check_eq(draft.add(Link { tail: 0, head: 1, figure: 1, groups: 0 }), Err(DraftFault::TailBeyond(0)))?;
+        check_eq(
+            draft.add(Link {
+                tail: 0,
+                head: 1,
+                figure: 1,
+                groups: 0,
+            }),
+            Err(DraftFault::TailBeyond(0)),
+        )?;
         check_eq(draft.size(256), Ok(()))?;
-        check_eq(draft.add(Link { tail: 255, head: 0, figure: 1, groups: 0 }), Ok(0))?;
-        check_eq(draft.add(Link { tail: 256, head: 256, figure: 1, groups: 0 }), Err(DraftFault::TailBeyond(1)))?;
-        check_eq(draft.add(Link { tail: 0, head: 256, figure: 1, groups: 0 }), Err(DraftFault::HeadBeyond(1)))?;
-        check_eq(draft.add(Link { tail: 4, head: 4, figure: 1, groups: 0 }), Err(DraftFault::SameEnds(1)))?;
+        check_eq(
+            draft.add(Link {
+                tail: 255,
+                head: 0,
+                figure: 1,
+                groups: 0,
+            }),
+            Ok(0),
+        )?;
+        check_eq(
+            draft.add(Link {
+                tail: 256,
+                head: 256,
+                figure: 1,
+                groups: 0,
+            }),
+            Err(DraftFault::TailBeyond(1)),
+        )?;
+        check_eq(
+            draft.add(Link {
+                tail: 0,
+                head: 256,
+                figure: 1,
+                groups: 0,
+            }),
+            Err(DraftFault::HeadBeyond(1)),
+        )?;
+        check_eq(
+            draft.add(Link {
+                tail: 4,
+                head: 4,
+                figure: 1,
+                groups: 0,
+            }),
+            Err(DraftFault::SameEnds(1)),
+        )?;
         let mut again = draft.close().reopen();
-        check_eq(again.add(Link { tail: 0, head: 255, figure: 1, groups: 0 }), Ok(1))?;
+        check_eq(
+            again.add(Link {
+                tail: 0,
+                head: 255,
+                figure: 1,
+                groups: 0,
+            }),
+            Ok(1),
+        )?;
         check_eq(again.size(1), Ok(()))?;
         let book = again.close();
         check_eq(book.node_count(), 1)?;
@@ -119,8 +284,18 @@ mod tests {
     fn extremes(heap: Global) -> Result<Book, Fail> {
         let mut draft = Draft::new(heap);
         draft.size(3)?;
-        draft.add(Link { tail: 0, head: 1, figure: 4_294_967_295, groups: 4_294_967_295 })?;
-        draft.add(Link { tail: 2, head: 1, figure: 0, groups: 0 })?;
+        draft.add(Link {
+            tail: 0,
+            head: 1,
+            figure: 4_294_967_295,
+            groups: 4_294_967_295,
+        })?;
+        draft.add(Link {
+            tail: 2,
+            head: 1,
+            figure: 0,
+            groups: 0,
+        })?;
         Ok(draft.close())
     }
 
@@ -128,7 +303,34 @@ mod tests {
     fn written_maps(rt: LibcRuntime) -> Result<(), Fail> {
         let book = extremes(rt.alloc())?;
         let bytes = [
-            0u8, 3, 0, 2, 0, 0, 0, 1, 0, 2, 0, 1, 255, 255, 255, 255, 255, 255, 255, 255, 0, 0, 0, 0, 0, 0, 0, 0,
+            0u8,
+            3,
+            0,
+            2,
+            0,
+            0,
+            0,
+            1,
+            0,
+            2,
+            0,
+            1,
+            255,
+            255,
+            255,
+            255,
+            255,
+            255,
+            255,
+            255,
+            0,
+            0,
+            0,
+            0,
+            0,
+            0,
+            0,
+            0,
         ];
         let mut short = [9u8; 27];
         check_eq(write(&book, &mut short), Err(MapFault::SmallBuffer(28)))?;
@@ -149,9 +351,15 @@ mod tests {
         check_eq(write(&none, &mut out), Err(MapFault::Nodes(0)))?;
         let book = extremes(rt.alloc())?;
         let marks = [false, true];
-        let service = Withdrawn { network: &book, marks: &marks };
+        let service = Withdrawn {
+            network: &book,
+            marks: &marks,
+        };
         check_eq(write(&service, &mut out), Err(MapFault::EmptyPlace(1)))?;
-        let layer = AtRisk { network: service, link: 0 };
+        let layer = AtRisk {
+            network: service,
+            link: 0,
+        };
         check_eq(write(&layer, &mut out), Err(MapFault::EmptyPlace(0)))?;
         check(out == [9u8; 40])
     }

@@ -8,7 +8,7 @@ use networks::draft::DraftFault;
 use std::alloc::Global;
 
 // Four nodes and six links; `duct` is the groups of links 1 and 3.
-pub fn example(heap: Global, duct: u32) -> Result<Book, DraftFault> {
+pub(crate) fn example(heap: Global, duct: u32) -> Result<Book, DraftFault> {
     let mut draft = Draft::new(heap);
     draft.size(4)?;
     for (tail, head, figure, groups) in [
@@ -30,7 +30,7 @@ pub fn example(heap: Global, duct: u32) -> Result<Book, DraftFault> {
 }
 
 // A refusal of the planner.
-pub fn refusal(number: u8, place: usize) -> FaultCode {
+pub(crate) fn refusal(number: u8, place: usize) -> FaultCode {
     FaultCode {
         layer: 3,
         number,
@@ -39,7 +39,7 @@ pub fn refusal(number: u8, place: usize) -> FaultCode {
 }
 
 // The code of a refusal; all zeros for an answer.
-pub fn code<T: Drop>(answer: Result<T, PlannerFault>) -> FaultCode {
+pub(crate) fn code<T: Drop>(answer: Result<T, PlannerFault>) -> FaultCode {
     match answer {
         Ok(_) => FaultCode {
             layer: 0,

@@ -4,13 +4,13 @@ ghost use lib.ListN.{length};
 ghost use Rattle.definitions.specs.Plans.{plain, worst};
 ghost use Rattle.routes.specs.Records.{Copied, SearchAnswer};
 use crate::record::NodeRecord;
+use frontier::lists::at;
 use measures::Measure;
 use networks::network::Network;
-use frontier::lists::at;
-use search::tables::worst_tables;
 use search::tables::Tables;
 use search::tables::Workspace;
 use search::tables::plain_tables;
+use search::tables::worst_tables;
 
 // Writes the record of every node, from a table of each of its parts.
 fn write_records(

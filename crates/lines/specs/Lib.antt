@@ -1,0 +1,3 @@
+pub mod Dialogues
+pub mod Held
+pub mod Lines
