@@ -1,4 +1,6 @@
 // The console's library: input in pieces, first lines, and faults of maps.
+#![tactic(auto)]
+
 #[cfg(test)]
 mod tests {
     use dialogue::admission::admit_map;

@@ -1,5 +1,7 @@
 // The types that all crates share: links, failures and fault codes. The specs beside them define networks, measures,
 // routes, guarantees, backups and traces, and `theorems` has what is proved of these definitions.
+#![tactic(auto)]
+
 pub mod theorems;
 
 ghost use Rattle.std.specs.Prelude.{◌≡◌, Some};

@@ -1,5 +1,7 @@
 // Replays the calls behind an outage: a link was withdrawn for repair, the same withdraw was sent again, and the plan made
 // after it was taken to be safe when a duct was cut. It prints what was called, what was answered, and where traffic goes.
+#![tactic(auto)]
+
 mod calls;
 mod layout;
 mod replays;

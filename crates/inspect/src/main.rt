@@ -1,5 +1,7 @@
 // Looks at the map in `net.map`: says what network it holds, or why it is no map. With a node's number as its argument it also
 // says the best delay and the best width from every node to that one.
+#![tactic(auto)]
+
 use frontier::lists::at;
 use maps::fault::MapFault;
 use maps::map::Map;

@@ -1,4 +1,6 @@
 // The console: takes the network in `net.map`, then answers the lines of standard input.
+#![tactic(auto)]
+
 use dialogue::admission::admit_map;
 use dialogue::session::Session;
 use lines::feed::Feed;

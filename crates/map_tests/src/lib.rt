@@ -1,4 +1,6 @@
 // Drafts and maps on examples: every question, every edge.
+#![tactic(auto)]
+
 #[cfg(test)]
 mod tests {
     use definitions::{FaultCode, Link};

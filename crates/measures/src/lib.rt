@@ -1,4 +1,6 @@
 // Measures: how the figures along a route make its value, and which of two values is better.
+#![tactic(auto)]
+
 ghost use Rattle.std.specs.Prelude.{◌≡◌};
 ghost use Rattle.definitions.specs.Measures.{Scale, Laws, delay, width};
 ghost use Rattle.std.proofs.Common.{rules};

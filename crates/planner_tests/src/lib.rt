@@ -1,4 +1,6 @@
 // Tests of the planner's calls on small networks.
+#![tactic(auto)]
+
 #[cfg(test)]
 mod buffers;
 #[cfg(test)]

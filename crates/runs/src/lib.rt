@@ -1,4 +1,6 @@
 // Lists of calls, made on a planner one after the other, and what is promised of the answers after them.
+#![tactic(auto)]
+
 ghost use Rattle.std.specs.Prelude.{◌≡◌};
 ghost use Rattle.histories.specs.Histories.{Follows};
 ghost use Rattle.planner.specs.Planners.{state, network_of};

@@ -1,4 +1,6 @@
 // The searches on small networks whose answers were worked out by hand.
+#![tactic(auto)]
+
 #[cfg(test)]
 mod tests {
     use definitions::Link;

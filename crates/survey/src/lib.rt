@@ -1,4 +1,6 @@
 // Surveys of a network: how many of its links are of a kind.
+#![tactic(auto)]
+
 ghost use Rattle.std.specs.Prelude.{◌≡◌};
 ghost use Rattle.survey.specs.Surveys.{selects, selected};
 

@@ -11,15 +11,15 @@ returns g c =
     let xs = c.args.self.now.entries.now in
     let n = c.args.self.now.len in
     let x = c.args.entry in
-    let zs = c.lift-last.new.entries in
+    let zs = c.lift_last.new.entries in
     let R = g.O.Order.before in
     let lt : n < length xs = omega arith in
     let m : n + 1 - 0 ≡ n + 1 = omega arith in
-    let s = c.lift-last.ensures.shuffled in
+    let s = c.lift_last.ensures.shuffled in
     let is = front zs _ (n + 1) (length_permutation _ zs s ∙ length_one_more xs n (n + 1 - 0) x lt m) in
     record {
       entries = subst (IsPermutation (x ∷ take n xs)) is (push_entries xs zs n (n + 1 - 0) x lt m s);
       room = simp length-take (omega arith);
-      order = λ h. subst (Heaped R) is (push_order R xs zs n (n + 1 - 0) x lt m c.lift-last.ensures.order h);
+      order = λ h. subst (Heaped R) is (push_order R xs zs n (n + 1 - 0) x lt m c.lift_last.ensures.order h);
       slots = search rules;
     }

@@ -16,14 +16,14 @@ pub returns : goal.returns
 returns g c =
     let xs = c.args.self.now.entries.now in
     let k = c.min-count.result in
-    let x = c.take-first-least.result in
-    let ws = c.take-first-least.new.entries in
+    let x = c.take_first-least.result in
+    let ws = c.take_first-least.new.entries in
     let R = g.O.Order.before in
-    let told = c.take-first-least.ensures in
+    let told = c.take_first-least.ensures in
     let part = take (k - 0) xs in
     let was : take c.args.self.now.len xs ≡ part = clipped xs c.args.self.now.len (k - 0) (omega arith) in
     let long : length part ≡ k - 0 = length-take-le (k - 0) xs (omega arith) in
-    let some : k - 1 ≤ length ws = omega (arith, c.take-first-least.auto.entries) in
+    let some : k - 1 ≤ length ws = omega (arith, c.take_first-least.auto.entries) in
     let count : length part - 1 ≡ k - 1 = omega arith in
     let is = ap (λ j. take j ws) count ∙ sym (take-append-le (k - 1) ws _ some) in
     record {

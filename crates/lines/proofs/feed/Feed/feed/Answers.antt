@@ -12,10 +12,10 @@ loop-byte-preserved g c =
     let piece = c.args.piece.now in
     let i = c.loop-byte.byte-index in
     let before = c.loop-byte.invariant in
-    let now = c.in-ok-feed-byte.ensures in (
+    let now = c.in_ok-feed_byte.ensures in (
       before.0 ++ now.0,
       now.1 ∙ ap (λ x. x ++ now.0) before.1 ∙ append_assoc _ before.0 now.0,
-      subst (λ p. Leads g.R.Responder.answers g.R.Responder.ended c.args.self.now c.args.responder.now p c.feed-byte.new.self c.feed-byte.new.responder (before.0 ++ now.0))
+      subst (λ p. Leads g.R.Responder.answers g.R.Responder.ended c.args.self.now c.args.responder.now p c.feed_byte.new.self c.feed_byte.new.responder (before.0 ++ now.0))
           (sym (take_more piece i 0 (omega arith)))
           (leads_on g.R.Responder.answers g.R.Responder.ended _ _ _ _ _ _ _ _ _ _ before.2 now.2),
     )

@@ -5,7 +5,7 @@ use Rattle.std.proofs.lemmas.Bool.{both_ways, eqb-true, eqb-false}
 use Rattle.lines.specs.Held.{held}
 use Rattle.lines.proofs.Feeding.{completes_none, completes_last}
 use Rattle.lines.proofs.feed.Feed.finish.Goals as goal
-use Rattle.lines.proofs.feed.Feed.finish.Goals.{else-self-via-then-self+else-is-empty, else-self-via-else-self}
+use Rattle.lines.proofs.feed.Feed.finish.Goals.{else-self-via-then-self+else-is_empty, else-self-via-else-self}
 
 pub returns-then-is-empty : goal.returns-then-is-empty
 returns-then-is-empty g c =
@@ -15,7 +15,7 @@ returns-then-is-empty g c =
 pub returns : goal.returns
 returns g c =
     let some : c.args.self.now.begun ≡ true → held c.args.self.now.buffer ≡ [] → ⊥ = elim c.else-self.branch [
-      | else-self-via-then-self+else-is-empty w ↦ λ _ e. eqb-false _ 0 (sym w.if-is-empty.ensures) (ap length (w.line.ensures ∙ e))
+      | else-self-via-then-self+else-is_empty w ↦ λ _ e. eqb-false _ 0 (sym w.if-is_empty.ensures) (ap length (w.line.ensures ∙ e))
       | else-self-via-else-self w ↦ λ b _. both_ways _ w.if-self.false b
     ] in
     IfOk-weaker c.answer.result _ _
