@@ -6,8 +6,8 @@ use Rattle.runs.proofs.answers_after.Goals as goal
 
 pub returns : goal.returns
 returns g c =
-    let told = c.in-ok-planner.ensures in
-    let p = c.in-ok-planner.planner in
+    let told = c.in_ok-planner.ensures in
+    let p = c.in_ok-planner.planner in
     let s = state g.N.Network.meaning p in (
       c.close.ensures ∙ told.0,
       record {

@@ -2,7 +2,7 @@ use Rattle.std.proofs.Common.{◌≡◌, ◌+◌, ◌<◌, length, None, count_b
 use Rattle.std.proofs.lemmas.List.Sums.{count_by_more_yes, count_by_more_no}
 use Rattle.survey.specs.Surveys.{selects}
 use Rattle.survey.proofs.count_links.Goals as goal
-use Rattle.survey.proofs.count_links.Goals.{then-is-selected, else-is-selected}
+use Rattle.survey.proofs.count_links.Goals.{then-is_selected, else-is_selected}
 
 pub loop-k-preserved : goal.loop-k-preserved
 loop-k-preserved g c =
@@ -11,11 +11,11 @@ loop-k-preserved g c =
     let k = c.loop-k.k in
     let within : k < length places = omega arith in
     let here = ap (selects s) (sym c.place.ensures) in
-    elim c.if-is-selected.branch [
-      | then-is-selected w ↦
-          (w.count-is ∙ ap (λ n. n + 1) c.loop-k.invariant.0 ∙ sym (count_by_more_yes (selects s) places k None within (here ∙ sym w.if-is-selected.ensures)), omega (arith, w.count-is))
-      | else-is-selected w ↦
-          (w.count-is ∙ c.loop-k.invariant.0 ∙ sym (count_by_more_no (selects s) places k None within (here ∙ sym w.if-is-selected.ensures)), omega (arith, w.count-is))
+    elim c.if-is_selected.branch [
+      | then-is_selected w ↦
+          (w.count-is ∙ ap (λ n. n + 1) c.loop-k.invariant.0 ∙ sym (count_by_more_yes (selects s) places k None within (here ∙ sym w.if-is_selected.ensures)), omega (arith, w.count-is))
+      | else-is_selected w ↦
+          (w.count-is ∙ c.loop-k.invariant.0 ∙ sym (count_by_more_no (selects s) places k None within (here ∙ sym w.if-is_selected.ensures)), omega (arith, w.count-is))
     ]
 
 pub returns : goal.returns

@@ -4,24 +4,24 @@ use Rattle.console.specs.Words.{number_of}
 use Rattle.console.proofs.WordLaws.{turn, too_large, in_range}
 use Rattle.console.proofs.numeral.value.Goals as goal
 
-pub returns-in-err-checked-mul : goal.returns-in-err-checked-mul
-returns-in-err-checked-mul c =
+pub returns-in_err-checked_mul : goal.returns-in_err-checked_mul
+returns-in_err-checked_mul c =
     let t = turn c.args.digits.now c.loop-d.n c.loop-d.d-index (omega arith) c.loop-d.invariant.0 c.loop-d.invariant.1 in
-    c.from-residual.ensures ∙ too_large (2 ^ 64) (number_of 0 c.args.digits.now) (omega (arith, c.in-err-checked-mul.ensures))
+    c.from_residual.ensures ∙ too_large (2 ^ 64) (number_of 0 c.args.digits.now) (omega (arith, c.in_err-checked_mul.ensures))
 
-pub overflow-sub-d : goal.overflow-sub-d
-overflow-sub-d c = (turn c.args.digits.now c.loop-d.n c.loop-d.d-index (omega arith) c.loop-d.invariant.0 c.loop-d.invariant.1).digit
+pub overflow_sub-d : goal.overflow_sub-d
+overflow_sub-d c = (turn c.args.digits.now c.loop-d.n c.loop-d.d-index (omega arith) c.loop-d.invariant.0 c.loop-d.invariant.1).digit
 
-pub returns-in-err-n : goal.returns-in-err-n
-returns-in-err-n c =
+pub returns-in_err-n : goal.returns-in_err-n
+returns-in_err-n c =
     let t = turn c.args.digits.now c.loop-d.n c.loop-d.d-index (omega arith) c.loop-d.invariant.0 c.loop-d.invariant.1 in
-    c.from-residual-in-err-n.ensures ∙ too_large (2 ^ 64) (number_of 0 c.args.digits.now) (omega (arith, c.in-err-n.ensures, c.in-ok-checked-mul.ensures))
+    c.from_residual-in_err-n.ensures ∙ too_large (2 ^ 64) (number_of 0 c.args.digits.now) (omega (arith, c.in_err-n.ensures, c.in_ok-checked_mul.ensures))
 
 pub loop-d-preserved : goal.loop-d-preserved
 loop-d-preserved c =
     let t = turn c.args.digits.now c.loop-d.n c.loop-d.d-index (omega arith) c.loop-d.invariant.0 c.loop-d.invariant.1 in
-    let m = c.in-ok-checked-mul.ensures in
-    let a = c.in-ok-n.ensures in
+    let m = c.in_ok-checked_mul.ensures in
+    let a = c.in_ok-n.ensures in
     (t.same ∙ (cc), t.rest, omega arith)
 
 pub returns : goal.returns

@@ -6,7 +6,7 @@ use Rattle.console.proofs.parse.parse.Goals as goal
 
 pub returns : goal.returns
 returns c =
-    let value = c.read-command.ensures in
+    let value = c.read_command.ensures in
     record {
       value = value;
       accepted = λ k e. spells c.args.line.now k (sym value ∙ e);

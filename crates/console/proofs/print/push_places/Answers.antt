@@ -9,7 +9,7 @@ loop-place-preserved c =
     let ks = c.args.places.now in
     let i = c.loop-place.place-index in
     let before = string_bytes c.args.out.now in
-    let wrote : string_bytes c.write.new.self ≡ string_bytes c.loop-place.out ++ field (get_or ks i 0) = c.in-ok-write.ensures.bytes in
+    let wrote : string_bytes c.write.new.self ≡ string_bytes c.loop-place.out ++ field (get_or ks i 0) = c.in_ok-write.ensures.bytes in
     wrote ∙ ap (λ b. b ++ field (get_or ks i 0)) c.loop-place.invariant ∙ flat_map_more field before (take i ks) (get_or ks i 0)
     ∙ ap (λ l. before ++ flat_map field l) (sym (take_more ks i 0 (omega arith)))
 

@@ -8,9 +8,9 @@ use Rattle.dialogue.proofs.session.converse.Goals as goal
 
 pub returns : goal.returns
 returns g c =
-    IfOk-weaker c.respond-all.result _ _
+    IfOk-weaker c.respond_all.result _ _
     (λ _ a.
     let lines : List (List ℕ) = a.2.0 in
-    let opened = subst (λ s. Exchange (Answers g.N.Network.meaning) is_over lines s c.respond-all.new.responder a.0) c.new-session.ensures a.2.2 in
-    (a.0, a.1, (lines, c.respond-all.new.responder, a.2.1, sound_dialogue g.N.Network.meaning lines (Opening c.args.heap c.args.network) _ a.0 opened tt)))
-    c.respond-all.ensures
+    let opened = subst (λ s. Exchange (Answers g.N.Network.meaning) is_over lines s c.respond_all.new.responder a.0) c.new-session.ensures a.2.2 in
+    (a.0, a.1, (lines, c.respond_all.new.responder, a.2.1, sound_dialogue g.N.Network.meaning lines (Opening c.args.heap c.args.network) _ a.0 opened tt)))
+    c.respond_all.ensures

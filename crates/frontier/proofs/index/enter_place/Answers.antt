@@ -13,6 +13,6 @@ returns-in-Some g c =
     indexing_some (g.N.Network.meaning c.args.network.now) (g.N.Network.limits c.args.network.now) c.args.index.now c.args.k c.from-head.result c.in-Some.link c.at.result
     (sym c.in-Some.ensures) c.from-head.ensures c.at.ensures c.requires.below
 
-pub returns-in-default : goal.returns-in-default
-returns-in-default g c =
-    (index_none (g.N.Network.meaning c.args.network.now) _ _ c.args.k (sym c.in-default.ensures) c.requires.below.0, c.requires.below.1, c.requires.below.2)
+pub returns-in_default : goal.returns-in_default
+returns-in_default g c =
+    (index_none (g.N.Network.meaning c.args.network.now) _ _ c.args.k (sym c.in_default.ensures) c.requires.below.0, c.requires.below.1, c.requires.below.2)

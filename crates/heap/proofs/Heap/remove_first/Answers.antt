@@ -6,11 +6,11 @@ use Rattle.heap.specs.Heaps.{Heaped}
 use Rattle.heap.proofs.Parts.{clipped}
 use Rattle.heap.proofs.Heap.remove_first.Goals as goal
 
-pub take-first-least-requires : goal.take-first-least-requires
-take-first-least-requires g c = let some = simp length-take at c.requires in simp length-take (omega arith)
+pub take_first-least-requires : goal.take_first-least-requires
+take_first-least-requires g c = let some = simp length-take at c.requires in simp length-take (omega arith)
 
-pub overflow-sub-self : goal.overflow-sub-self
-overflow-sub-self g c = let some = simp length-take at c.requires in omega arith
+pub overflow_sub-self : goal.overflow_sub-self
+overflow_sub-self g c = let some = simp length-take at c.requires in omega arith
 
 pub returns : goal.returns
 returns g c =

@@ -8,9 +8,9 @@ pub returns : goal.returns
 returns g c =
     let n = g.N.Network.meaning c.args.network.now in
     let room = length c.args.out.now in
-    let len = c.in-ok-len.len in
-    let ok : Ok len ≡ writable n room = sym c.in-ok-len.was ∙ c.writable-len.ensures in
-    let bytes = all_written n c.args.out.now _ _ _ len c.write-sizes.ensures c.write-ends.ensures c.write-attributes.ensures (writable_ok n room len ok).2 in
+    let len = c.in_ok-len.len in
+    let ok : Ok len ≡ writable n room = sym c.in_ok-len.was ∙ c.writable_len.ensures in
+    let bytes = all_written n c.args.out.now _ _ _ len c.write_sizes.ensures c.write_ends.ensures c.write_attributes.ensures (writable_ok n room len ok).2 in
     record {
       value = ok;
       bytes = bytes;

@@ -23,5 +23,5 @@ loop-i-preserved g c =
     let net = g.N.Network.meaning c.args.network.now in
     let xs = c.args.places.now in
     let there = value_more m net xs c.loop-i.i (omega arith) (omega arith) in
-    let h = ap (place net.places) (sym c.from.ensures) ∙ (sym c.place.ensures ∙ c.in-default.is) in
+    let h = ap (place net.places) (sym c.from.ensures) ∙ (sym c.place.ensures ∙ c.in_default.is) in
     (omega arith, c.loop-i.invariant.1 ∙ sym (there ∙ ap (λ o. extended m o (plain_value m net (drop c.loop-i.i xs))) h))

@@ -16,7 +16,7 @@ loop-at-preserved g c =
     let k = c.in-Some.k in
     let l = c.in-Some-place.link in
     let h : Holds net k l = ap (place net.places) (sym c.from-in-loop-at.ensures) ∙ (sym c.place.ensures ∙ c.in-Some-place.is) in
-    let ok : failed net c.args.failure k ≡ false = ap (failed net c.args.failure) (sym c.from.ensures) ∙ (sym c.has-failed.ensures ∙ c.if-has-failed.false) in
+    let ok : failed net c.args.failure k ≡ false = ap (failed net c.args.failure) (sym c.from.ensures) ∙ (sym c.has_failed.ensures ∙ c.if-has_failed.false) in
     let sound = (g.N.Network.limits c.args.network.now).sound k l h in (
       (λ _. omega (arith, sound.1, c.from-at.ensures)),
       omega arith,
@@ -39,40 +39,40 @@ returns-then-at-destination g c = record {
   passed = c.loop-at.invariant.1;
 }
 
-pub returns-in-default : goal.returns-in-default
-returns-in-default g c = record {
+pub returns-in_default : goal.returns-in_default
+returns-in_default g c = record {
   turned = λ ks P lt.
       let net = g.N.Network.meaning c.args.network.now in
       let (js, is, q, Q, W, z, S) = c.loop-at.invariant.2 ks P lt in
       let (k, l, xs, e, n, h, X) = goes_on net (next_of c.args.records.now) c.args.destination c.loop-at.at is c.if-at-destination.false W in
-      nothing_there _ k n (sym c.in-default.ensures);
+      nothing_there _ k n (sym c.in_default.ensures);
   inside = c.loop-at.invariant.0;
   passed = c.loop-at.invariant.1;
 }
 
-pub returns-then-has-failed : goal.returns-then-has-failed
-returns-then-has-failed g c = record {
+pub returns-then-has_failed : goal.returns-then-has_failed
+returns-then-has_failed g c = record {
   turned = λ ks P lt.
       let net = g.N.Network.meaning c.args.network.now in
       let (js, is, q, Q, W, z, S) = c.loop-at.invariant.2 ks P lt in
       let (k, l, xs, e, n, h, X) = goes_on net (next_of c.args.records.now) c.args.destination c.loop-at.at is c.if-at-destination.false W in
       let m = c.in-Some.ensures in
       let kk : c.in-Some.k ≡ k = cc in
-      let bad : failed net c.args.failure c.in-Some.k ≡ true = ap (failed net c.args.failure) (sym c.from.ensures) ∙ (sym c.has-failed.ensures ∙ c.if-has-failed.true) in
+      let bad : failed net c.args.failure c.in-Some.k ≡ true = ap (failed net c.args.failure) (sym c.from.ensures) ∙ (sym c.has_failed.ensures ∙ c.if-has_failed.true) in
       (js, is, q, Q, z, S, inr (subst (Blocked net c.args.failure) (sym e) (subst (λ x. failed net c.args.failure x ≡ true) kk bad)));
   inside = c.loop-at.invariant.0;
   passed = c.loop-at.invariant.1;
 }
 
-pub returns-in-default-place : goal.returns-in-default-place
-returns-in-default-place g c = record {
+pub returns-in_default-place : goal.returns-in_default-place
+returns-in_default-place g c = record {
   turned = λ ks P lt.
       let net = g.N.Network.meaning c.args.network.now in
       let (js, is, q, Q, W, z, S) = c.loop-at.invariant.2 ks P lt in
       let (k, l, xs, e, n, h, X) = goes_on net (next_of c.args.records.now) c.args.destination c.loop-at.at is c.if-at-destination.false W in
       let m = c.in-Some.ensures in
       let kk : c.in-Some.k ≡ k = cc in
-      let none : place net.places c.in-Some.k ≡ None = ap (place net.places) (sym c.from-in-loop-at.ensures) ∙ (sym c.place.ensures ∙ c.in-default-place.is) in
+      let none : place net.places c.in-Some.k ≡ None = ap (place net.places) (sym c.from-in-loop-at.ensures) ∙ (sym c.place.ensures ∙ c.in_default-place.is) in
       nothing_there _ l h (subst (λ x. place net.places x ≡ None) kk none);
   inside = c.loop-at.invariant.0;
   passed = c.loop-at.invariant.1;

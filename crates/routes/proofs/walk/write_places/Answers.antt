@@ -7,21 +7,21 @@ use Rattle.routes.proofs.walk.write_places.Goals as goal
 pub loop-slot-init : goal.loop-slot-init
 loop-slot-init g c e ks P z = (ks, P, refl)
 
-pub returns-in-default : goal.returns-in-default
-returns-in-default g c e ks P z =
+pub returns-in_default : goal.returns-in_default
+returns-in_default g c e ks P z =
     let net = g.N.Network.meaning c.args.network.now in
     let (js, Q, q) = c.loop-slot.invariant e ks P z in
     let (k, l, is, ej, nj, hj, Q') = more_to_write net (next_of c.args.records.now) e c.loop-slot.at c.loop-slot.slot-index c.loop-slot.places js ks Q q (omega arith) (omega arith) in
-    nothing_there _ k nj (sym c.in-default.ensures)
+    nothing_there _ k nj (sym c.in_default.ensures)
 
-pub returns-in-default-place : goal.returns-in-default-place
-returns-in-default-place g c e ks P z =
+pub returns-in_default-place : goal.returns-in_default-place
+returns-in_default-place g c e ks P z =
     let net = g.N.Network.meaning c.args.network.now in
     let (js, Q, q) = c.loop-slot.invariant e ks P z in
     let (k, l, is, ej, nj, hj, Q') = more_to_write net (next_of c.args.records.now) e c.loop-slot.at c.loop-slot.slot-index c.loop-slot.places js ks Q q (omega arith) (omega arith) in
     let n = c.in-Some.ensures in
     let kk : c.in-Some.k ≡ k = cc in
-    let none : place net.places c.in-Some.k ≡ None = ap (place net.places) (sym c.from.ensures) ∙ (sym c.place.ensures ∙ c.in-default-place.is) in
+    let none : place net.places c.in-Some.k ≡ None = ap (place net.places) (sym c.from.ensures) ∙ (sym c.place.ensures ∙ c.in_default-place.is) in
     nothing_there _ l hj (subst (λ x. place net.places x ≡ None) kk none)
 
 pub loop-slot-preserved : goal.loop-slot-preserved

@@ -2,25 +2,25 @@ use Rattle.std.proofs.Common.{arith}
 use Rattle.frontier.proofs.Worsts.{recovered_fitting, worst_found, worst_best, worst_next}
 use Rattle.search.proofs.guarantees.worst_tables.Goals as goal
 
-pub best-values-requires : goal.best-values-requires
-best-values-requires g c =
+pub best_values-requires : goal.best_values-requires
+best_values-requires g c =
     let few = g.N.Network.limits c.args.network.now in
     record {
-      indexed = c.index-links.ensures;
-      fitting = recovered_fitting g.M.Measure.scale g.met.M.Measure.lawful (g.N.Network.meaning c.args.network.now) few c.args.t _ c.if-not-recovery-values.ensures.of_link;
-      inside = omega (arith, c.if-not-recovery-values.ensures.inside);
+      indexed = c.index_links.ensures;
+      fitting = recovered_fitting g.M.Measure.scale g.met.M.Measure.lawful (g.N.Network.meaning c.args.network.now) few c.args.t _ c.if-not-recovery_values.ensures.of_link;
+      inside = omega (arith, c.if-not-recovery_values.ensures.inside);
       nodes = omega arith;
       room = omega arith;
     }
 
-pub next-links-requires : goal.next-links-requires
-next-links-requires g c =
+pub next_links-requires : goal.next_links-requires
+next_links-requires g c =
     let few = g.N.Network.limits c.args.network.now in
     record {
-      indexed = c.index-links.ensures;
-      fitting = recovered_fitting g.M.Measure.scale g.met.M.Measure.lawful (g.N.Network.meaning c.args.network.now) few c.args.t _ c.if-not-recovery-values.ensures.of_link;
-      labels = c.best-values.ensures;
-      inside = omega (arith, c.if-not-recovery-values.ensures.inside);
+      indexed = c.index_links.ensures;
+      fitting = recovered_fitting g.M.Measure.scale g.met.M.Measure.lawful (g.N.Network.meaning c.args.network.now) few c.args.t _ c.if-not-recovery_values.ensures.of_link;
+      labels = c.best_values.ensures;
+      inside = omega (arith, c.if-not-recovery_values.ensures.inside);
       nodes = omega arith;
       next = omega arith;
       room = omega arith;
@@ -32,11 +32,11 @@ returns g c =
     let M = g.met.M.Measure.lawful in
     let net = g.N.Network.meaning c.args.network.now in
     let few = g.N.Network.limits c.args.network.now in
-    let R = c.if-not-recovery-values.ensures in
+    let R = c.if-not-recovery_values.ensures in
     record {
       recovered = R;
-      guarantee = worst_best m M net few c.args.t _ R.of_link _ c.best-values.ensures;
-      labels = worst_found m M net few c.args.t _ R.of_link _ c.best-values.ensures;
-      nexts = worst_next m M net few c.args.t _ R.of_link _ c.best-values.ensures _ _ c.next-links.ensures.nexts;
-      idle = c.next-links.ensures.idle;
+      guarantee = worst_best m M net few c.args.t _ R.of_link _ c.best_values.ensures;
+      labels = worst_found m M net few c.args.t _ R.of_link _ c.best_values.ensures;
+      nexts = worst_next m M net few c.args.t _ R.of_link _ c.best_values.ensures _ _ c.next_links.ensures.nexts;
+      idle = c.next_links.ensures.idle;
     }

@@ -11,4 +11,4 @@ returns g c =
     meeting_test g.M.Measure.scale (place c.args.recoveries.now) values c.args.k link _ _ _
     (ap values (sym c.from.ensures) ∙ sym c.in-Some.ensures)
     (ap values (sym c.from-2.ensures) ∙ sym c.in-Some-at.ensures)
-    (ap (λ o. made g.M.Measure.scale o link.figure c.in-Some.beyond) (sym c.at-3.ensures) ∙ sym c.in-Some-link-value.ensures)
+    (ap (λ o. made g.M.Measure.scale o link.figure c.in-Some.beyond) (sym c.at-3.ensures) ∙ sym c.in-Some-link_value.ensures)

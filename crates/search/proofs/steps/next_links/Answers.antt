@@ -10,8 +10,8 @@ use Rattle.frontier.proofs.Stored.{cleared, read_unset, read_set}
 use Rattle.frontier.proofs.Walking.{walking_start, walking_skip, walking_settle, walking_end, hop_holds, hop_short, hop_inside, count_less}
 use Rattle.search.proofs.steps.next_links.Goals as goal
 
-pub count-node-requires : goal.count-node-requires
-count-node-requires g c =
+pub count_node-requires : goal.count_node-requires
+count_node-requires g c =
     let net = g.N.Network.meaning c.args.network.now in
     let (none, long) = cleared _ _ c.fill.ensures in
     let few : links_open net (place c.fill.new.list) ≤ length net.places = tally_few (λ k. leads_on (place c.fill.new.list) (place net.places k)) _ in
@@ -30,19 +30,19 @@ pub loop-hop-init : goal.loop-hop-init
 loop-hop-init g c =
     let (none, long) = cleared _ _ c.fill.ensures in
     let (none2, long2) = cleared _ _ c.fill-2.ensures in
-    walking_start _ _ (g.N.Network.limits c.args.network.now) c.args.t _ c.requires.labels c.fill.new.list c.fill-2.new.list c.new-heap.result c.count-node.new.heap
-    none none2 (omega arith) (omega arith) (omega arith) c.new-heap.ensures.none (omega arith) _ c.count-node.ensures.settled c.count-node.ensures.offered
+    walking_start _ _ (g.N.Network.limits c.args.network.now) c.args.t _ c.requires.labels c.fill.new.list c.fill-2.new.list c.new-heap.result c.count_node.new.heap
+    none none2 (omega arith) (omega arith) (omega arith) c.new-heap.ensures.none (omega arith) _ c.count_node.ensures.settled c.count_node.ensures.offered
 
-pub loop-hop-smaller-in-default-place : goal.loop-hop-smaller-in-default-place
-loop-hop-smaller-in-default-place g c = let told = c.in-Some.ensures in omega (arith, length_permutation _ _ told.entries)
+pub loop-hop-smaller-in_default-place : goal.loop-hop-smaller-in_default-place
+loop-hop-smaller-in_default-place g c = let told = c.in-Some.ensures in omega (arith, length_permutation _ _ told.entries)
 
-pub loop-hop-preserved-in-default-place : goal.loop-hop-preserved-in-default-place
-loop-hop-preserved-in-default-place g c =
+pub loop-hop-preserved-in_default-place : goal.loop-hop-preserved-in_default-place
+loop-hop-preserved-in_default-place g c =
     let told = c.in-Some.ensures in
     let (l, h) = hop_holds _ _ (g.N.Network.limits c.args.network.now) c.args.t _ c.requires.labels c.loop-hop.steps c.loop-hop.nexts c.loop-hop.heap c.pop.new.self
     c.loop-hop.invariant c.in-Some.hop told.entries told.order told.first told.slots in
     let e : Holds (g.N.Network.meaning c.args.network.now) c.from.result l = ap (place (g.N.Network.meaning c.args.network.now).places) c.from.ensures ∙ h in
-    absurd (not_both_links _ l e (sym c.in-default-place.ensures))
+    absurd (not_both_links _ l e (sym c.in_default-place.ensures))
 
 pub bounds-nexts-from : goal.bounds-nexts-from
 bounds-nexts-from g c =
@@ -52,8 +52,8 @@ bounds-nexts-from g c =
     (read_holds (g.N.Network.meaning c.args.network.now) c.in-Some.hop.link c.from.result c.in-Some-place.link c.from.ensures c.in-Some-place.ensures) in
     omega arith
 
-pub count-node-requires-then-is-none : goal.count-node-requires-then-is-none
-count-node-requires-then-is-none g c =
+pub count_node-requires-then-is_none : goal.count_node-requires-then-is_none
+count_node-requires-then-is_none g c =
     let told = c.in-Some.ensures in
     let shorter = length_permutation _ _ told.entries in
     let short = hop_short _ _ (g.N.Network.limits c.args.network.now) c.args.t _ c.requires.labels c.loop-hop.steps c.loop-hop.nexts c.loop-hop.heap c.pop.new.self
@@ -69,26 +69,26 @@ count-node-requires-then-is-none g c =
       fitting = c.requires.fitting;
       short = omega arith;
       inside = inside.0;
-      fresh = read_unset _ _ _ _ c.from-in-Some.ensures c.at.ensures c.if-is-none.ensures;
+      fresh = read_unset _ _ _ _ c.from-in-Some.ensures c.at.ensures c.if-is_none.ensures;
       order = told.order c.loop-hop.invariant.order;
       room = omega arith;
     }
 
-pub loop-hop-smaller-then-is-none : goal.loop-hop-smaller-then-is-none
-loop-hop-smaller-then-is-none g c =
+pub loop-hop-smaller-then-is_none : goal.loop-hop-smaller-then-is_none
+loop-hop-smaller-then-is_none g c =
     let told = c.in-Some.ensures in
     count_less _ _ (g.N.Network.limits c.args.network.now) c.args.t _ c.requires.labels c.loop-hop.steps c.loop-hop.nexts c.loop-hop.heap c.pop.new.self
     c.loop-hop.invariant c.in-Some.hop told.entries told.order told.first told.slots c.in-Some-place.link
     (read_holds (g.N.Network.meaning c.args.network.now) c.in-Some.hop.link c.from.result c.in-Some-place.link c.from.ensures c.in-Some-place.ensures)
-    c.count-node-then-is-none.new.heap (read_unset _ _ _ _ c.from-in-Some.ensures c.at.ensures c.if-is-none.ensures) _ c.count-node-then-is-none.ensures.settled c.count-node-then-is-none.ensures.offered
+    c.count_node-then-is_none.new.heap (read_unset _ _ _ _ c.from-in-Some.ensures c.at.ensures c.if-is_none.ensures) _ c.count_node-then-is_none.ensures.settled c.count_node-then-is_none.ensures.offered
 
-pub loop-hop-preserved-then-is-none : goal.loop-hop-preserved-then-is-none
-loop-hop-preserved-then-is-none g c =
+pub loop-hop-preserved-then-is_none : goal.loop-hop-preserved-then-is_none
+loop-hop-preserved-then-is_none g c =
     let told = c.in-Some.ensures in
     walking_settle _ _ (g.N.Network.limits c.args.network.now) c.args.t _ c.requires.labels c.loop-hop.steps c.loop-hop.nexts c.loop-hop.heap c.pop.new.self
     c.loop-hop.invariant c.in-Some.hop told.entries told.order told.first told.slots c.in-Some-place.link
     (read_holds (g.N.Network.meaning c.args.network.now) c.in-Some.hop.link c.from.result c.in-Some-place.link c.from.ensures c.in-Some-place.ensures)
-    c.count-node-then-is-none.new.heap (read_unset _ _ _ _ c.from-in-Some.ensures c.at.ensures c.if-is-none.ensures) _ c.count-node-then-is-none.ensures.settled _ c.from-then-is-none.ensures c.count-node-then-is-none.ensures.offered
+    c.count_node-then-is_none.new.heap (read_unset _ _ _ _ c.from-in-Some.ensures c.at.ensures c.if-is_none.ensures) _ c.count_node-then-is_none.ensures.settled _ c.from-then-is_none.ensures c.count_node-then-is_none.ensures.offered
 
 pub loop-hop-smaller : goal.loop-hop-smaller
 loop-hop-smaller g c = let told = c.in-Some.ensures in omega (arith, length_permutation _ _ told.entries)
@@ -96,13 +96,13 @@ loop-hop-smaller g c = let told = c.in-Some.ensures in omega (arith, length_perm
 pub loop-hop-preserved : goal.loop-hop-preserved
 loop-hop-preserved g c =
     let told = c.in-Some.ensures in
-    let (a, e) = read_set _ _ _ _ c.from-in-Some.ensures c.at.ensures c.if-is-none.ensures in
+    let (a, e) = read_set _ _ _ _ c.from-in-Some.ensures c.at.ensures c.if-is_none.ensures in
     walking_skip _ _ (g.N.Network.limits c.args.network.now) c.args.t _ c.requires.labels c.loop-hop.steps c.loop-hop.nexts c.loop-hop.heap c.pop.new.self
     c.loop-hop.invariant c.in-Some.hop told.entries told.order told.first told.slots c.in-Some-place.link
     (read_holds (g.N.Network.meaning c.args.network.now) c.in-Some.hop.link c.from.result c.in-Some-place.link c.from.ensures c.in-Some-place.ensures) a e
 
 pub returns : goal.returns
 returns g c = record {
-  nexts = walking_end _ _ (g.N.Network.limits c.args.network.now) c.args.t _ c.requires.labels c.loop-hop.steps c.loop-hop.nexts c.loop-hop.heap c.loop-hop.invariant c.in-default.ensures.entries.0;
+  nexts = walking_end _ _ (g.N.Network.limits c.args.network.now) c.args.t _ c.requires.labels c.loop-hop.steps c.loop-hop.nexts c.loop-hop.heap c.loop-hop.invariant c.in_default.ensures.entries.0;
   idle = c.loop-hop.invariant.idle;
 }

@@ -6,7 +6,7 @@ use Rattle.frontier.proofs.Hopping.{hopping_start, hopping_none, hopping_some, h
 use Rattle.definitions.specs.Searches.{given as valued}
 use Rattle.definitions.proofs.Givens.{given_lawful}
 use Rattle.search.proofs.steps.offer_hops.Goals as goal
-use Rattle.search.proofs.steps.offer_hops.Goals.{in-Some-offer-hop, in-default-offer-hop}
+use Rattle.search.proofs.steps.offer_hops.Goals.{in-Some-offer_hop, in_default-offer_hop}
 
 pub loop-cursor-init : goal.loop-cursor-init
 loop-cursor-init g c =
@@ -38,12 +38,12 @@ loop-cursor-preserved g c =
     let (at, le, none, own) = turn_bound net _ _ c.requires.indexed from.node c.in-Some.link k c.loop-cursor.cursor
     c.at-cursor-in-Some.result c.in-Some.is c.from-k.ensures (c.loop-cursor.invariant.1 c.requires.indexed) c.at-cursor-in-Some.ensures in
     let here : HopOffering ρ net d s from old c.loop-cursor.heap (k + 1) = subst (HopOffering ρ net d s from old c.loop-cursor.heap) at c.loop-cursor.invariant.0 in
-    let then : HopOffering ρ net d s from old c.match-offer-hop.alloc k = elim c.match-offer-hop.branch [
-      | in-Some-offer-hop w ↦ subst (λ h. HopOffering ρ net d s from old h k) (sym w.heap-is)
-          (hopping_some ρ net d s from old _ L k _ here c.requires.room w.in-Some-offer-hop.hop w.in-Some-offer-hop.ensures
+    let then : HopOffering ρ net d s from old c.match-offer_hop.alloc k = elim c.match-offer_hop.branch [
+      | in-Some-offer_hop w ↦ subst (λ h. HopOffering ρ net d s from old h k) (sym w.heap-is)
+          (hopping_some ρ net d s from old _ L k _ here c.requires.room w.in-Some-offer_hop.hop w.in-Some-offer_hop.ensures
           w.push.result _ w.push.ensures.entries w.push.ensures.room w.push.ensures.order w.push.ensures.slots)
-      | in-default-offer-hop w ↦ subst (λ h. HopOffering ρ net d s from old h k) (sym w.heap-is)
-          (hopping_none ρ net d s from old _ L k _ here w.in-default-offer-hop.ensures)
+      | in_default-offer_hop w ↦ subst (λ h. HopOffering ρ net d s from old h k) (sym w.heap-is)
+          (hopping_none ρ net d s from old _ L k _ here w.in_default-offer_hop.ensures)
     ] in (
       hopping_down ρ net d s from old _ _ k le none then,
       λ I. (turn_bound net _ _ I from.node c.in-Some.link k c.loop-cursor.cursor
@@ -51,4 +51,4 @@ loop-cursor-preserved g c =
     )
 
 pub returns : goal.returns
-returns g c = subst (HopOffering _ _ _ _ _ _ _) (ap above c.in-default.is) c.loop-cursor.invariant.0
+returns g c = subst (HopOffering _ _ _ _ _ _ _) (ap above c.in_default.is) c.loop-cursor.invariant.0

@@ -30,8 +30,8 @@ loop-next-init g c =
     searching_start _ g.met.M.Measure.lawful _ _ c.requires.fitting (g.N.Network.limits c.args.network.now) c.args.t c.fill.new.list c.new-heap.result c.settle.new.heap
     none (omega arith) (omega arith) c.new-heap.ensures.none (omega arith) c.starting.result c.starting.ensures _ c.settle.ensures.settled c.settle.ensures.offered
 
-pub settle-requires-then-is-none : goal.settle-requires-then-is-none
-settle-requires-then-is-none g c =
+pub settle-requires-then-is_none : goal.settle-requires-then-is_none
+settle-requires-then-is_none g c =
     let told = c.in-Some.ensures in
     let inv = c.loop-next.invariant in
     let shorter = length_permutation _ _ told.entries in
@@ -40,24 +40,24 @@ settle-requires-then-is-none g c =
       fitting = c.requires.fitting;
       inside = popped_inside _ g.met.M.Measure.lawful _ _ c.requires.fitting (g.N.Network.limits c.args.network.now) c.args.t c.loop-next.values c.loop-next.heap c.pop.new.self
           inv c.in-Some.next told.entries told.order told.first told.slots;
-      fresh = read_unset _ _ _ _ c.from.ensures c.at.ensures c.if-is-none.ensures;
+      fresh = read_unset _ _ _ _ c.from.ensures c.at.ensures c.if-is_none.ensures;
       order = told.order inv.order;
       room = omega (arith, told.slots);
     }
 
-pub loop-next-smaller-then-is-none : goal.loop-next-smaller-then-is-none
-loop-next-smaller-then-is-none g c =
+pub loop-next-smaller-then-is_none : goal.loop-next-smaller-then-is_none
+loop-next-smaller-then-is_none g c =
     let told = c.in-Some.ensures in
     settle_less _ g.met.M.Measure.lawful _ _ c.requires.fitting (g.N.Network.limits c.args.network.now) c.args.t c.loop-next.values c.loop-next.heap c.pop.new.self
-    c.loop-next.invariant c.in-Some.next told.entries told.order told.first told.slots c.settle-then-is-none.new.heap
-    (read_unset _ _ _ _ c.from.ensures c.at.ensures c.if-is-none.ensures) _ c.settle-then-is-none.ensures.settled c.settle-then-is-none.ensures.offered
+    c.loop-next.invariant c.in-Some.next told.entries told.order told.first told.slots c.settle-then-is_none.new.heap
+    (read_unset _ _ _ _ c.from.ensures c.at.ensures c.if-is_none.ensures) _ c.settle-then-is_none.ensures.settled c.settle-then-is_none.ensures.offered
 
-pub loop-next-preserved-then-is-none : goal.loop-next-preserved-then-is-none
-loop-next-preserved-then-is-none g c =
+pub loop-next-preserved-then-is_none : goal.loop-next-preserved-then-is_none
+loop-next-preserved-then-is_none g c =
     let told = c.in-Some.ensures in
     searching_settle _ g.met.M.Measure.lawful _ _ c.requires.fitting (g.N.Network.limits c.args.network.now) c.args.t c.loop-next.values c.loop-next.heap c.pop.new.self
-    c.loop-next.invariant c.in-Some.next told.entries told.order told.first told.slots c.settle-then-is-none.new.heap
-    (read_unset _ _ _ _ c.from.ensures c.at.ensures c.if-is-none.ensures) _ c.settle-then-is-none.ensures.settled c.settle-then-is-none.ensures.offered
+    c.loop-next.invariant c.in-Some.next told.entries told.order told.first told.slots c.settle-then-is_none.new.heap
+    (read_unset _ _ _ _ c.from.ensures c.at.ensures c.if-is_none.ensures) _ c.settle-then-is_none.ensures.settled c.settle-then-is_none.ensures.offered
 
 pub loop-next-smaller : goal.loop-next-smaller
 loop-next-smaller g c = let told = c.in-Some.ensures in omega (arith, length_permutation _ _ told.entries)
@@ -65,11 +65,11 @@ loop-next-smaller g c = let told = c.in-Some.ensures in omega (arith, length_per
 pub loop-next-preserved : goal.loop-next-preserved
 loop-next-preserved g c =
     let told = c.in-Some.ensures in
-    let (a, e) = read_set _ _ _ _ c.from.ensures c.at.ensures c.if-is-none.ensures in
+    let (a, e) = read_set _ _ _ _ c.from.ensures c.at.ensures c.if-is_none.ensures in
     searching_skip _ g.met.M.Measure.lawful _ _ c.requires.fitting (g.N.Network.limits c.args.network.now) c.args.t c.loop-next.values c.loop-next.heap c.pop.new.self
     c.loop-next.invariant c.in-Some.next told.entries told.order told.first told.slots a e
 
 pub returns : goal.returns
 returns g c =
     searching_end _ g.met.M.Measure.lawful _ _ c.requires.fitting (g.N.Network.limits c.args.network.now) c.args.t c.loop-next.values c.loop-next.heap
-    c.loop-next.invariant c.in-default.ensures.entries.0
+    c.loop-next.invariant c.in_default.ensures.entries.0

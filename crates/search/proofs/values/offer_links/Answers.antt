@@ -3,7 +3,7 @@ use Rattle.definitions.specs.Networks.{place}
 use Rattle.frontier.specs.Progress.{above, Offering}
 use Rattle.frontier.proofs.Offering.{offering_start, offering_none, offering_some, offering_down, first_bound, turn_bound}
 use Rattle.search.proofs.values.offer_links.Goals as goal
-use Rattle.search.proofs.values.offer_links.Goals.{in-Some-offer, in-default-offer}
+use Rattle.search.proofs.values.offer_links.Goals.{in-Some-offer, in_default-offer}
 
 pub loop-cursor-init : goal.loop-cursor-init
 loop-cursor-init g c =
@@ -41,8 +41,8 @@ loop-cursor-preserved g c =
       | in-Some-offer w ↦ subst (λ h. Offering m r net d from old h k) (sym w.heap-is)
           (offering_some m M r net c.requires.fitting N d from old k _ here c.requires.room w.in-Some-offer.entry w.in-Some-offer.ensures
           w.push.result _ w.push.ensures.entries w.push.ensures.room w.push.ensures.order w.push.ensures.slots)
-      | in-default-offer w ↦ subst (λ h. Offering m r net d from old h k) (sym w.heap-is)
-          (offering_none m M r net c.requires.fitting N d from old k _ here w.in-default-offer.ensures)
+      | in_default-offer w ↦ subst (λ h. Offering m r net d from old h k) (sym w.heap-is)
+          (offering_none m M r net c.requires.fitting N d from old k _ here w.in_default-offer.ensures)
     ] in (
       offering_down m M r net c.requires.fitting N d from old _ _ k le none then,
       λ I. (turn_bound net _ _ I from.node c.in-Some.link k c.loop-cursor.cursor
@@ -50,4 +50,4 @@ loop-cursor-preserved g c =
     )
 
 pub returns : goal.returns
-returns g c = subst (Offering _ _ _ _ _ _ _) (ap above c.in-default.is) c.loop-cursor.invariant.0
+returns g c = subst (Offering _ _ _ _ _ _ _) (ap above c.in_default.is) c.loop-cursor.invariant.0

@@ -4,8 +4,8 @@ use Rattle.dialogue.proofs.dialogue.Dialogue.answer.Goals as goal
 
 pub returns : goal.returns
 returns g c =
-    let tried = c.try-line-result.ensures in (
+    let tried = c.try_line-result.ensures in (
       _,
-      c.in-ok-print-reply.ensures,
-      λ R. later g.N.Network.meaning g.M.Measure.scale c.args.self.now _ c.args.line.now c.try-line-result.result _ _ (search rules) tried.keeps c.saturating-add-self.ensures (tried.answer R),
+      c.in_ok-print_reply.ensures,
+      λ R. later g.N.Network.meaning g.M.Measure.scale c.args.self.now _ c.args.line.now c.try_line-result.result _ _ (search rules) tried.keeps c.saturating_add-self.ensures (tried.answer R),
     )

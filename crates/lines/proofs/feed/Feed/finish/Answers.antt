@@ -7,9 +7,9 @@ use Rattle.lines.proofs.Feeding.{completes_none, completes_last}
 use Rattle.lines.proofs.feed.Feed.finish.Goals as goal
 use Rattle.lines.proofs.feed.Feed.finish.Goals.{else-self-via-then-self+else-is_empty, else-self-via-else-self}
 
-pub returns-then-is-empty : goal.returns-then-is-empty
-returns-then-is-empty g c =
-    let empty = sym c.line.ensures ∙ nil_from_length _ (eqb-true _ 0 (sym c.if-is-empty.ensures)) in
+pub returns-then-is_empty : goal.returns-then-is_empty
+returns-then-is_empty g c =
+    let empty = sym c.line.ensures ∙ nil_from_length _ (eqb-true _ 0 (sym c.if-is_empty.ensures)) in
     ([], sym (append-nil _), completes_none g.R.Responder.answers g.R.Responder.ended c.args.self.now c.args.responder.now c.if-self.true empty)
 
 pub returns : goal.returns

@@ -7,6 +7,6 @@ use Rattle.maps.proofs.map.Map.open.Goals as goal
 pub invariant-of-result-2 : goal.invariant-of-result-2
 invariant-of-result-2 c =
     let bs = c.args.bytes.now in
-    let none = none_if_ok (map_fault bs) c.check.result c.check.ensures c.if-is-err.ensures.value in
+    let none = none_if_ok (map_fault bs) c.check.result c.check.ensures c.if-is_err.ensures.value in
     let sizes = sizes_right bs (no_size_fault bs none) in
     (sizes.0, (sizes.1, (sizes.2, (well_formed bs (λ i. omega (arith, (c.type-inv.bytes i).fits)) none, tt))))

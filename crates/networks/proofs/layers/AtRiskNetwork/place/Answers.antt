@@ -6,12 +6,12 @@ use Rattle.networks.proofs.layers.AtRiskNetwork.place.Goals as goal
 pub returns-then-k-self : goal.returns-then-k-self
 returns-then-k-self g c = sym (risk_same (g.N.Network.meaning c.args.self.now.network) c.args.self.now.link c.args.k c.if-k-self.true)
 
-pub returns-then-shares-group : goal.returns-then-shares-group
-returns-then-shares-group g c =
+pub returns-then-shares_group : goal.returns-then-shares_group
+returns-then-shares_group g c =
     sym (risk_shared (g.N.Network.meaning c.args.self.now.network) c.args.self.now.link c.args.k
-    (sym (ap₂ share_group c.place-there.ensures c.place.ensures) ∙ sym c.if-shares-group.ensures))
+    (sym (ap₂ share_group c.place-there.ensures c.place.ensures) ∙ sym c.if-shares_group.ensures))
 
 pub returns : goal.returns
 returns g c =
     c.place-there.ensures ∙ sym (risk_apart (g.N.Network.meaning c.args.self.now.network) c.args.self.now.link c.args.k c.if-k-self.false
-    (sym (ap₂ share_group c.place-there.ensures c.place.ensures) ∙ sym c.if-shares-group.ensures))
+    (sym (ap₂ share_group c.place-there.ensures c.place.ensures) ∙ sym c.if-shares_group.ensures))

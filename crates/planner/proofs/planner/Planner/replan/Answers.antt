@@ -19,17 +19,17 @@ returns g c = record {
       let n = g.N.Network.meaning p.network in
       let t = c.args.destination in
       let s = state g.N.Network.meaning p in
-      let ws = c.worst-records.new.records in
-      let items : vec_items (with_items p.records ws) ≡ ws = take_at ws _ p.records.len (omega (arith, c.worst-records.auto.records, c.deref-mut.ensures.len, p.nodes)) in
+      let ws = c.worst_records.new.records in
+      let items : vec_items (with_items p.records ws) ≡ ws = take_at ws _ p.records.len (omega (arith, c.worst_records.auto.records, c.deref_mut.ensures.len, p.nodes)) in
       let found : Recorded (worst m (in_service s) t) (in_service s) t ws =
-      subst (λ a. Recorded (worst m (withdrawn a n) t) (withdrawn a n) t ws) c.deref.ensures.value (searched _ _ t _ ws _ lt (omega (arith, c.deref-mut.ensures.len, p.nodes)) c.worst-records.ensures) in
+      subst (λ a. Recorded (worst m (withdrawn a n) t) (withdrawn a n) t ws) c.deref.ensures.value (searched _ _ t _ ws _ lt (omega (arith, c.deref_mut.ensures.len, p.nodes)) c.worst_records.ensures) in
       record {
         net = refl;
         marks = refl;
         standing = refl;
         right = (lt, subst (λ rs. Recorded (worst m (in_service s) t) (in_service s) t rs) (sym items) found);
         count = subst (λ x. Planned m (in_service s) t x) (sym (c.guaranteed-nodes.ensures ∙ ap tallied (ap₂ take c.node_count.ensures (c.deref-2.ensures.value ∙ items))))
-            (counted m g.met.M.Measure.lawful (in_service s) (service_limits s (g.N.Network.limits p.network)) t ws found n.nodes (omega (arith, (g.N.Network.limits p.network).few_nodes, c.worst-records.auto.records, c.deref-mut.ensures.len, p.nodes)));
+            (counted m g.met.M.Measure.lawful (in_service s) (service_limits s (g.N.Network.limits p.network)) t ws found n.nodes (omega (arith, (g.N.Network.limits p.network).few_nodes, c.worst_records.auto.records, c.deref_mut.ensures.len, p.nodes)));
       };
   keeps = refl;
 }

@@ -3,8 +3,8 @@ use Rattle.histories.specs.declared.fault.PlannerFault.TheVariants.{NoLink, InSe
 use Rattle.planner.proofs.Keeping.{restore_kept}
 use Rattle.planner.proofs.planner.Planner.restore.Goals as goal
 
-pub returns-then-is-none : goal.returns-then-is-none
-returns-then-is-none g c = restore_kept g.N.Network.meaning g.N.Network.limits g.M.Measure.scale c.args.self.now c.args.self.now c.args.place (Err (NoLink c.args.place)) (search rules) refl refl
+pub returns-then-is_none : goal.returns-then-is_none
+returns-then-is_none g c = restore_kept g.N.Network.meaning g.N.Network.limits g.M.Measure.scale c.args.self.now c.args.self.now c.args.place (Err (NoLink c.args.place)) (search rules) refl refl
 
 pub returns-then-not-is-withdrawn : goal.returns-then-not-is-withdrawn
 returns-then-not-is-withdrawn g c = restore_kept g.N.Network.meaning g.N.Network.limits g.M.Measure.scale c.args.self.now c.args.self.now c.args.place (Err (InService c.args.place)) (search rules) refl refl

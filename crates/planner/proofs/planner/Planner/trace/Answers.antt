@@ -9,7 +9,7 @@ use Rattle.routes.specs.Walks.{Turned, plain_value}
 use Rattle.histories.proofs.Following.{trace_kept}
 use Rattle.histories.proofs.Calls.{trace_refused, trace_denied, trace_no_room, trace_arrived, trace_no_room_after, trace_turned}
 use Rattle.planner.proofs.planner.Planner.trace.Goals as goal
-use Rattle.planner.proofs.planner.Planner.trace.Goals.{then-turn-destination+else-places-passed, else-turn-destination+in-ok-count}
+use Rattle.planner.proofs.planner.Planner.trace.Goals.{then-turn-destination+else-places-passed, else-turn-destination+in_ok-count}
 
 -- there is a record for each node that there can be
 all : {N M : Type 0} (p : Planner N M) → length (vec_items p.records) ≡ 256
@@ -24,95 +24,95 @@ long count passed front places le e lc =
     let z = cut passed places le in
     simp (length-append, length-drop) (omega arith)
 
-pub returns-in-err-destination : goal.returns-in-err-destination
-returns-in-err-destination g c = trace_kept g.M.Measure.scale g.met.M.Measure.lawful (state g.N.Network.meaning c.args.self.now) (g.N.Network.limits c.args.self.now.network) c.args.node c.args.places.now _ c.args.failure _ (λ R.
+pub returns-in_err-destination : goal.returns-in_err-destination
+returns-in_err-destination g c = trace_kept g.M.Measure.scale g.met.M.Measure.lawful (state g.N.Network.meaning c.args.self.now) (g.N.Network.limits c.args.self.now.network) c.args.node c.args.places.now _ c.args.failure _ (λ R.
     let p = c.args.self.now in
-    let x = err_from_is_err_and c.from-residual.result c.from-residual.ensures.1 in
-    trace_refused g.M.Measure.scale g.met.M.Measure.lawful (state g.N.Network.meaning p) (g.N.Network.limits p.network) R c.args.node c.readable.result c.readable.ensures c.args.places.now _ c.args.failure _ _ c.in-err-destination.was (x.1 ∙ ap Err x.2) refl)
+    let x = err_from_is_err_and c.from_residual.result c.from_residual.ensures.1 in
+    trace_refused g.M.Measure.scale g.met.M.Measure.lawful (state g.N.Network.meaning p) (g.N.Network.limits p.network) R c.args.node c.readable.result c.readable.ensures c.args.places.now _ c.args.failure _ _ c.in_err-destination.was (x.1 ∙ ap Err x.2) refl)
 
-pub returns-in-err-check-failure : goal.returns-in-err-check-failure
-returns-in-err-check-failure g c = trace_kept g.M.Measure.scale g.met.M.Measure.lawful (state g.N.Network.meaning c.args.self.now) (g.N.Network.limits c.args.self.now.network) c.args.node c.args.places.now _ c.args.failure _ (λ R.
+pub returns-in_err-check-failure : goal.returns-in_err-check-failure
+returns-in_err-check-failure g c = trace_kept g.M.Measure.scale g.met.M.Measure.lawful (state g.N.Network.meaning c.args.self.now) (g.N.Network.limits c.args.self.now.network) c.args.node c.args.places.now _ c.args.failure _ (λ R.
     let p = c.args.self.now in
-    let x = err_from_is_err_and c.from-residual-in-err-check-failure.result c.from-residual-in-err-check-failure.ensures.1 in
-    trace_denied g.M.Measure.scale g.met.M.Measure.lawful (state g.N.Network.meaning p) (g.N.Network.limits p.network) R c.args.node c.readable.result c.readable.ensures c.args.places.now _ c.args.failure _ _ _ c.in-ok-destination.was c.check-failure.result c.check-failure.ensures _ c.in-err-check-failure.was (x.1 ∙ ap Err x.2) refl)
+    let x = err_from_is_err_and c.from_residual-in_err-check-failure.result c.from_residual-in_err-check-failure.ensures.1 in
+    trace_denied g.M.Measure.scale g.met.M.Measure.lawful (state g.N.Network.meaning p) (g.N.Network.limits p.network) R c.args.node c.readable.result c.readable.ensures c.args.places.now _ c.args.failure _ _ _ c.in_ok-destination.was c.check-failure.result c.check-failure.ensures _ c.in_err-check-failure.was (x.1 ∙ ap Err x.2) refl)
 
 pub returns-then-places-passed : goal.returns-then-places-passed
 returns-then-places-passed g c = trace_kept g.M.Measure.scale g.met.M.Measure.lawful (state g.N.Network.meaning c.args.self.now) (g.N.Network.limits c.args.self.now.network) c.args.node c.args.places.now _ c.args.failure _ (λ R.
     let p = c.args.self.now in
-    let turn : Turned (in_service (state g.N.Network.meaning p)) (vec_items p.records) c.in-ok-destination.destination c.args.failure c.args.node c.turning-point-turn.result.0 c.turning-point-turn.result.1 =
-    subst₂ (λ a b. Turned (withdrawn a (g.N.Network.meaning p.network)) b c.in-ok-destination.destination c.args.failure c.args.node c.turning-point-turn.result.0 c.turning-point-turn.result.1) c.deref.ensures.value c.deref-2.ensures.value c.turning-point-turn.ensures.turned in
-    trace_no_room g.M.Measure.scale g.met.M.Measure.lawful (state g.N.Network.meaning p) (g.N.Network.limits p.network) R c.args.node c.readable.result c.readable.ensures c.args.places.now _ c.args.failure _ _ _ c.in-ok-destination.was c.check-failure.result c.check-failure.ensures c.in-ok-check-failure.was _ _ (all p) turn c.if-turn-destination.true c.if-places-passed.true refl refl)
+    let turn : Turned (in_service (state g.N.Network.meaning p)) (vec_items p.records) c.in_ok-destination.destination c.args.failure c.args.node c.turning_point-turn.result.0 c.turning_point-turn.result.1 =
+    subst₂ (λ a b. Turned (withdrawn a (g.N.Network.meaning p.network)) b c.in_ok-destination.destination c.args.failure c.args.node c.turning_point-turn.result.0 c.turning_point-turn.result.1) c.deref.ensures.value c.deref-2.ensures.value c.turning_point-turn.ensures.turned in
+    trace_no_room g.M.Measure.scale g.met.M.Measure.lawful (state g.N.Network.meaning p) (g.N.Network.limits p.network) R c.args.node c.readable.result c.readable.ensures c.args.places.now _ c.args.failure _ _ _ c.in_ok-destination.was c.check-failure.result c.check-failure.ensures c.in_ok-check-failure.was _ _ (all p) turn c.if-turn-destination.true c.if-places-passed.true refl refl)
 
 pub write-backup-requires : goal.write-backup-requires
-write-backup-requires g c = omega (arith, c.turning-point-turn.ensures.passed, c.deref-2.ensures.len, c.args.self.now.nodes)
+write-backup-requires g c = omega (arith, c.turning_point-turn.ensures.passed, c.deref-2.ensures.len, c.args.self.now.nodes)
 
-pub returns-in-err-count : goal.returns-in-err-count
-returns-in-err-count g c = trace_kept g.M.Measure.scale g.met.M.Measure.lawful (state g.N.Network.meaning c.args.self.now) (g.N.Network.limits c.args.self.now.network) c.args.node c.args.places.now _ c.args.failure _ (λ R.
+pub returns-in_err-count : goal.returns-in_err-count
+returns-in_err-count g c = trace_kept g.M.Measure.scale g.met.M.Measure.lawful (state g.N.Network.meaning c.args.self.now) (g.N.Network.limits c.args.self.now.network) c.args.node c.args.places.now _ c.args.failure _ (λ R.
     let p = c.args.self.now in
-    let x = err_from_is_err_and c.from-residual-in-err-count.result c.from-residual-in-err-count.ensures.1 in
-    let turn : Turned (in_service (state g.N.Network.meaning p)) (vec_items p.records) c.in-ok-destination.destination c.args.failure c.args.node c.turning-point-turn.result.0 c.turning-point-turn.result.1 =
-    subst₂ (λ a b. Turned (withdrawn a (g.N.Network.meaning p.network)) b c.in-ok-destination.destination c.args.failure c.args.node c.turning-point-turn.result.0 c.turning-point-turn.result.1) c.deref.ensures.value c.deref-2.ensures.value c.turning-point-turn.ensures.turned in
-    trace_no_room_after g.M.Measure.scale g.met.M.Measure.lawful (state g.N.Network.meaning p) (g.N.Network.limits p.network) R c.args.node c.readable.result c.readable.ensures c.args.places.now _ c.args.failure _ _ _ c.in-ok-destination.was c.check-failure.result c.check-failure.ensures c.in-ok-check-failure.was _ _ (all p) turn c.if-turn-destination.false _ c.write-backup.result c.write-backup.ensures.answer _ c.in-err-count.was (x.1 ∙ ap Err x.2) refl)
+    let x = err_from_is_err_and c.from_residual-in_err-count.result c.from_residual-in_err-count.ensures.1 in
+    let turn : Turned (in_service (state g.N.Network.meaning p)) (vec_items p.records) c.in_ok-destination.destination c.args.failure c.args.node c.turning_point-turn.result.0 c.turning_point-turn.result.1 =
+    subst₂ (λ a b. Turned (withdrawn a (g.N.Network.meaning p.network)) b c.in_ok-destination.destination c.args.failure c.args.node c.turning_point-turn.result.0 c.turning_point-turn.result.1) c.deref.ensures.value c.deref-2.ensures.value c.turning_point-turn.ensures.turned in
+    trace_no_room_after g.M.Measure.scale g.met.M.Measure.lawful (state g.N.Network.meaning p) (g.N.Network.limits p.network) R c.args.node c.readable.result c.readable.ensures c.args.places.now _ c.args.failure _ _ _ c.in_ok-destination.was c.check-failure.result c.check-failure.ensures c.in_ok-check-failure.was _ _ (all p) turn c.if-turn-destination.false _ c.write-backup.result c.write-backup.ensures.answer _ c.in_err-count.was (x.1 ∙ ap Err x.2) refl)
 
-pub slice-bounds-write-places-end : goal.slice-bounds-write-places-end
-slice-bounds-write-places-end g c = elim c.if-turn-destination.branch [
+pub slice-bounds-write_places-end : goal.slice-bounds-write_places-end
+slice-bounds-write_places-end g c = elim c.if-turn-destination.branch [
   | then-turn-destination+else-places-passed w ↦ omega (arith, w.if-places-passed.false, c.if-turn-destination.auto.places)
-  | else-turn-destination+in-ok-count w ↦ omega (arith, w.in-ok-count.ensures.room.0, w.in-ok-count.ensures.room.1, c.if-turn-destination.auto.places)
+  | else-turn-destination+in_ok-count w ↦ omega (arith, w.in_ok-count.ensures.room.0, w.in_ok-count.ensures.room.1, c.if-turn-destination.auto.places)
 ]
 
-pub slice-bounds-write-places-end-2 : goal.slice-bounds-write-places-end-2
-slice-bounds-write-places-end-2 g c =
-    let le : c.turning-point-turn.result.1 ≤ length c.if-turn-destination.places = elim c.if-turn-destination.branch [
+pub slice-bounds-write_places-end-2 : goal.slice-bounds-write_places-end-2
+slice-bounds-write_places-end-2 g c =
+    let le : c.turning_point-turn.result.1 ≤ length c.if-turn-destination.places = elim c.if-turn-destination.branch [
       | then-turn-destination+else-places-passed w ↦ omega (arith, w.if-places-passed.false, c.if-turn-destination.auto.places)
-      | else-turn-destination+in-ok-count w ↦ omega (arith, w.in-ok-count.ensures.room.0, w.in-ok-count.ensures.room.1, c.if-turn-destination.auto.places)
+      | else-turn-destination+in_ok-count w ↦ omega (arith, w.in_ok-count.ensures.room.0, w.in_ok-count.ensures.room.1, c.if-turn-destination.auto.places)
     ] in
-    cut c.turning-point-turn.result.1 c.if-turn-destination.places le
+    cut c.turning_point-turn.result.1 c.if-turn-destination.places le
 
-pub slice-bounds-plain-value-end : goal.slice-bounds-plain-value-end
-slice-bounds-plain-value-end g c =
-    let both : (c.turning-point-turn.result.1 ≤ length c.if-turn-destination.places) × (c.if-turn-destination.count ≤ length c.if-turn-destination.places) = elim c.if-turn-destination.branch [
+pub slice-bounds-plain_value-end : goal.slice-bounds-plain_value-end
+slice-bounds-plain_value-end g c =
+    let both : (c.turning_point-turn.result.1 ≤ length c.if-turn-destination.places) × (c.if-turn-destination.count ≤ length c.if-turn-destination.places) = elim c.if-turn-destination.branch [
       | then-turn-destination+else-places-passed w ↦ (omega (arith, w.if-places-passed.false, c.if-turn-destination.auto.places), omega (arith, w.count-is, w.if-places-passed.false, c.if-turn-destination.auto.places))
-      | else-turn-destination+in-ok-count w ↦ (
-        omega (arith, w.in-ok-count.ensures.room.0, w.in-ok-count.ensures.room.1, c.if-turn-destination.auto.places),
-        omega (arith, w.count-is, w.in-ok-count.ensures.room.1, c.if-turn-destination.auto.places),
+      | else-turn-destination+in_ok-count w ↦ (
+        omega (arith, w.in_ok-count.ensures.room.0, w.in_ok-count.ensures.room.1, c.if-turn-destination.auto.places),
+        omega (arith, w.count-is, w.in_ok-count.ensures.room.1, c.if-turn-destination.auto.places),
       )
     ] in
-    long c.if-turn-destination.count c.turning-point-turn.result.1 c.write-places.new.places c.if-turn-destination.places both.0 c.write-places.auto.places both.1
+    long c.if-turn-destination.count c.turning_point-turn.result.1 c.write_places.new.places c.if-turn-destination.places both.0 c.write_places.auto.places both.1
 
-pub slice-bounds-plain-value-end-2 : goal.slice-bounds-plain-value-end-2
-slice-bounds-plain-value-end-2 g c =
-    let both : (c.turning-point-turn.result.1 ≤ length c.if-turn-destination.places) × (c.if-turn-destination.count ≤ length c.if-turn-destination.places) = elim c.if-turn-destination.branch [
+pub slice-bounds-plain_value-end-2 : goal.slice-bounds-plain_value-end-2
+slice-bounds-plain_value-end-2 g c =
+    let both : (c.turning_point-turn.result.1 ≤ length c.if-turn-destination.places) × (c.if-turn-destination.count ≤ length c.if-turn-destination.places) = elim c.if-turn-destination.branch [
       | then-turn-destination+else-places-passed w ↦ (omega (arith, w.if-places-passed.false, c.if-turn-destination.auto.places), omega (arith, w.count-is, w.if-places-passed.false, c.if-turn-destination.auto.places))
-      | else-turn-destination+in-ok-count w ↦ (
-        omega (arith, w.in-ok-count.ensures.room.0, w.in-ok-count.ensures.room.1, c.if-turn-destination.auto.places),
-        omega (arith, w.count-is, w.in-ok-count.ensures.room.1, c.if-turn-destination.auto.places),
+      | else-turn-destination+in_ok-count w ↦ (
+        omega (arith, w.in_ok-count.ensures.room.0, w.in_ok-count.ensures.room.1, c.if-turn-destination.auto.places),
+        omega (arith, w.count-is, w.in_ok-count.ensures.room.1, c.if-turn-destination.auto.places),
       )
     ] in
-    cut c.if-turn-destination.count _ (long c.if-turn-destination.count c.turning-point-turn.result.1 c.write-places.new.places c.if-turn-destination.places both.0 c.write-places.auto.places both.1)
+    cut c.if-turn-destination.count _ (long c.if-turn-destination.count c.turning_point-turn.result.1 c.write_places.new.places c.if-turn-destination.places both.0 c.write_places.auto.places both.1)
 
 pub returns : goal.returns
 returns g c = trace_kept g.M.Measure.scale g.met.M.Measure.lawful (state g.N.Network.meaning c.args.self.now) (g.N.Network.limits c.args.self.now.network) c.args.node c.args.places.now _ c.args.failure _ (λ R.
     let p = c.args.self.now in
-    let turn : Turned (in_service (state g.N.Network.meaning p)) (vec_items p.records) c.in-ok-destination.destination c.args.failure c.args.node c.turning-point-turn.result.0 c.turning-point-turn.result.1 =
-    subst₂ (λ a b. Turned (withdrawn a (g.N.Network.meaning p.network)) b c.in-ok-destination.destination c.args.failure c.args.node c.turning-point-turn.result.0 c.turning-point-turn.result.1) c.deref.ensures.value c.deref-2.ensures.value c.turning-point-turn.ensures.turned in
-    let le : c.turning-point-turn.result.1 ≡ length (take c.turning-point-turn.result.1 c.if-turn-destination.places) = cut c.turning-point-turn.result.1 c.if-turn-destination.places (elim c.if-turn-destination.branch [
+    let turn : Turned (in_service (state g.N.Network.meaning p)) (vec_items p.records) c.in_ok-destination.destination c.args.failure c.args.node c.turning_point-turn.result.0 c.turning_point-turn.result.1 =
+    subst₂ (λ a b. Turned (withdrawn a (g.N.Network.meaning p.network)) b c.in_ok-destination.destination c.args.failure c.args.node c.turning_point-turn.result.0 c.turning_point-turn.result.1) c.deref.ensures.value c.deref-2.ensures.value c.turning_point-turn.ensures.turned in
+    let le : c.turning_point-turn.result.1 ≡ length (take c.turning_point-turn.result.1 c.if-turn-destination.places) = cut c.turning_point-turn.result.1 c.if-turn-destination.places (elim c.if-turn-destination.branch [
       | then-turn-destination+else-places-passed w ↦ omega (arith, w.if-places-passed.false, c.if-turn-destination.auto.places)
-      | else-turn-destination+in-ok-count w ↦ omega (arith, w.in-ok-count.ensures.room.0, w.in-ok-count.ensures.room.1, c.if-turn-destination.auto.places)
+      | else-turn-destination+in_ok-count w ↦ omega (arith, w.in_ok-count.ensures.room.0, w.in_ok-count.ensures.room.1, c.if-turn-destination.auto.places)
     ]) in
-    let wrote : (e : ℕ) (ks : List ℕ) → Leads (in_service (state g.N.Network.meaning p)) (next_of (vec_items p.records)) e c.args.node ks → length ks ≡ c.turning-point-turn.result.1 → c.write-places.new.places ≡ ks = λ e ks P z.
-    c.write-places.ensures e ks
+    let wrote : (e : ℕ) (ks : List ℕ) → Leads (in_service (state g.N.Network.meaning p)) (next_of (vec_items p.records)) e c.args.node ks → length ks ≡ c.turning_point-turn.result.1 → c.write_places.new.places ≡ ks = λ e ks P z.
+    c.write_places.ensures e ks
     (subst₂ (λ a b. Leads (withdrawn a (g.N.Network.meaning p.network)) (next_of b) e c.args.node ks) (sym c.deref.ensures.value) (sym c.deref-3.ensures.value) P)
     (z ∙ le) in
-    let value : c.plain-value.result ≡ plain_value g.M.Measure.scale (in_service (state g.N.Network.meaning p)) (take c.if-turn-destination.count (c.write-places.new.places ++ drop c.turning-point-turn.result.1 c.if-turn-destination.places)) =
-    subst (λ a. c.plain-value.result ≡ plain_value g.M.Measure.scale (withdrawn a (g.N.Network.meaning p.network)) (take c.if-turn-destination.count (c.write-places.new.places ++ drop c.turning-point-turn.result.1 c.if-turn-destination.places))) c.deref.ensures.value c.plain-value.ensures in
+    let value : c.plain_value.result ≡ plain_value g.M.Measure.scale (in_service (state g.N.Network.meaning p)) (take c.if-turn-destination.count (c.write_places.new.places ++ drop c.turning_point-turn.result.1 c.if-turn-destination.places)) =
+    subst (λ a. c.plain_value.result ≡ plain_value g.M.Measure.scale (withdrawn a (g.N.Network.meaning p.network)) (take c.if-turn-destination.count (c.write_places.new.places ++ drop c.turning_point-turn.result.1 c.if-turn-destination.places))) c.deref.ensures.value c.plain_value.ensures in
     elim c.if-turn-destination.branch [
       | then-turn-destination+else-places-passed w ↦
-          trace_arrived g.M.Measure.scale g.met.M.Measure.lawful (state g.N.Network.meaning p) (g.N.Network.limits p.network) R c.args.node c.readable.result c.readable.ensures c.args.places.now _ c.args.failure _ _ _ c.in-ok-destination.was c.check-failure.result c.check-failure.ensures c.in-ok-check-failure.was _ _ (all p) turn w.if-turn-destination.true w.if-places-passed.false c.write-places.new.places c.plain-value.result wrote
-          (ap (λ x. c.write-places.new.places ++ drop c.turning-point-turn.result.1 x) w.places-is)
-          (subst (λ i. c.plain-value.result ≡ plain_value g.M.Measure.scale (in_service (state g.N.Network.meaning p)) (take i (c.write-places.new.places ++ drop c.turning-point-turn.result.1 c.if-turn-destination.places))) w.count-is value)
-          (ap (λ i. Ok (c.plain-value.result, i)) w.count-is)
-      | else-turn-destination+in-ok-count w ↦
-          trace_turned g.M.Measure.scale g.met.M.Measure.lawful (state g.N.Network.meaning p) (g.N.Network.limits p.network) R c.args.node c.readable.result c.readable.ensures c.args.places.now _ c.args.failure _ _ _ c.in-ok-destination.was c.check-failure.result c.check-failure.ensures c.in-ok-check-failure.was _ _ (all p) turn w.if-turn-destination.false w.write-backup.new.places w.write-backup.result w.write-backup.ensures.answer c.write-places.new.places c.plain-value.result c.if-turn-destination.count
-          (w.in-ok-count.was ∙ ap Ok (sym w.count-is)) wrote
-          (ap (λ x. c.write-places.new.places ++ drop c.turning-point-turn.result.1 x) w.places-is) value refl
+          trace_arrived g.M.Measure.scale g.met.M.Measure.lawful (state g.N.Network.meaning p) (g.N.Network.limits p.network) R c.args.node c.readable.result c.readable.ensures c.args.places.now _ c.args.failure _ _ _ c.in_ok-destination.was c.check-failure.result c.check-failure.ensures c.in_ok-check-failure.was _ _ (all p) turn w.if-turn-destination.true w.if-places-passed.false c.write_places.new.places c.plain_value.result wrote
+          (ap (λ x. c.write_places.new.places ++ drop c.turning_point-turn.result.1 x) w.places-is)
+          (subst (λ i. c.plain_value.result ≡ plain_value g.M.Measure.scale (in_service (state g.N.Network.meaning p)) (take i (c.write_places.new.places ++ drop c.turning_point-turn.result.1 c.if-turn-destination.places))) w.count-is value)
+          (ap (λ i. Ok (c.plain_value.result, i)) w.count-is)
+      | else-turn-destination+in_ok-count w ↦
+          trace_turned g.M.Measure.scale g.met.M.Measure.lawful (state g.N.Network.meaning p) (g.N.Network.limits p.network) R c.args.node c.readable.result c.readable.ensures c.args.places.now _ c.args.failure _ _ _ c.in_ok-destination.was c.check-failure.result c.check-failure.ensures c.in_ok-check-failure.was _ _ (all p) turn w.if-turn-destination.false w.write-backup.new.places w.write-backup.result w.write-backup.ensures.answer c.write_places.new.places c.plain_value.result c.if-turn-destination.count
+          (w.in_ok-count.was ∙ ap Ok (sym w.count-is)) wrote
+          (ap (λ x. c.write_places.new.places ++ drop c.turning_point-turn.result.1 x) w.places-is) value refl
     ])

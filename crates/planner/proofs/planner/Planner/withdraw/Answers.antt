@@ -3,8 +3,8 @@ use Rattle.histories.specs.declared.fault.PlannerFault.TheVariants.{NoLink, With
 use Rattle.planner.proofs.Keeping.{withdraw_kept}
 use Rattle.planner.proofs.planner.Planner.withdraw.Goals as goal
 
-pub returns-then-is-none : goal.returns-then-is-none
-returns-then-is-none g c = withdraw_kept g.N.Network.meaning g.N.Network.limits g.M.Measure.scale c.args.self.now c.args.self.now c.args.place (Err (NoLink c.args.place)) (search rules) refl refl
+pub returns-then-is_none : goal.returns-then-is_none
+returns-then-is_none g c = withdraw_kept g.N.Network.meaning g.N.Network.limits g.M.Measure.scale c.args.self.now c.args.self.now c.args.place (Err (NoLink c.args.place)) (search rules) refl refl
 
 pub returns-then-is-withdrawn : goal.returns-then-is-withdrawn
 returns-then-is-withdrawn g c = withdraw_kept g.N.Network.meaning g.N.Network.limits g.M.Measure.scale c.args.self.now c.args.self.now c.args.place (Err (Withdrawn c.args.place)) (search rules) refl refl
