@@ -8,6 +8,7 @@ ghost use Rattle.console.specs.FirstLine.{opening_line};
 use crate::command::Command;
 use crate::measure::MeasureName;
 use definitions::FaultCode;
+use std::alloc::AllocError;
 use std::fmt;
 
 // What a command answers.
@@ -43,7 +44,7 @@ impl fmt::Display for Command {
 }
 
 // Adds a space and the number, for each place.
-fn push_places(out: &mut String, places: &[u16]) -> fmt::Result
+fn push_places(out: &mut String, places: &[u16]) -> Result<(), AllocError>
     ensures { OnOk result (string_bytes out.new ≡ string_bytes out.old ++ flat_map field places.now) }
 {
     for place in places {
@@ -53,7 +54,7 @@ fn push_places(out: &mut String, places: &[u16]) -> fmt::Result
 }
 
 // Adds the value, then the places.
-fn push_traced(out: &mut String, value: u64, places: &[u16]) -> fmt::Result
+fn push_traced(out: &mut String, value: u64, places: &[u16]) -> Result<(), AllocError>
     ensures { OnOk result (string_bytes out.new ≡ string_bytes out.old ++ (field value ++ flat_map field places.now)) }
 {
     write!(out, " {value}")?;
@@ -61,7 +62,7 @@ fn push_traced(out: &mut String, value: u64, places: &[u16]) -> fmt::Result
 }
 
 // Adds what follows a command on its line.
-fn push_answer(out: &mut String, answer: Answer<'_>) -> fmt::Result
+fn push_answer(out: &mut String, answer: Answer<'_>) -> Result<(), AllocError>
     ensures { OnOk result (string_bytes out.new ≡ string_bytes out.old ++ answered answer.entry) }
 {
     match answer {
@@ -74,7 +75,11 @@ fn push_answer(out: &mut String, answer: Answer<'_>) -> fmt::Result
 }
 
 // Adds the line of a command with its answer.
-pub fn print_answer(out: &mut String, command: Command, answer: Answer<'_>) -> fmt::Result
+pub fn print_answer(
+    out: &mut String,
+    command: Command,
+    answer: Answer<'_>,
+) -> Result<(), AllocError>
     ensures { OnOk result (string_bytes out.new ≡ string_bytes out.old ++ answer_line command answer.entry) }
 {
     write!(out, "{command}")?;
@@ -83,7 +88,7 @@ pub fn print_answer(out: &mut String, command: Command, answer: Answer<'_>) -> f
 }
 
 // Adds the line of a refusal.
-pub fn print_refusal(out: &mut String, line: u64, fault: FaultCode) -> fmt::Result
+pub fn print_refusal(out: &mut String, line: u64, fault: FaultCode) -> Result<(), AllocError>
     ensures { OnOk result (string_bytes out.new ≡ string_bytes out.old ++ refusal_line line fault) }
 {
     let FaultCode {
@@ -100,7 +105,7 @@ pub fn print_opening(
     name: MeasureName,
     nodes: usize,
     places: usize,
-) -> fmt::Result
+) -> Result<(), AllocError>
     ensures { OnOk result (string_bytes out.new ≡ string_bytes out.old ++ opening_line name nodes places) }
 {
     match name {

@@ -4,8 +4,8 @@ use Rattle.maps.proofs.Firsts.{sizes_right, no_size_fault, none_if_ok, well_form
 use Rattle.maps.proofs.map.Map.open.Goals as goal
 
 -- Bytes without a fault are well formed.
-pub invariant-of-result-2 : goal.invariant-of-result-2
-invariant-of-result-2 c =
+pub invariant_of-result-2 : goal.invariant_of-result-2
+invariant_of-result-2 c =
     let bs = c.args.bytes.now in
     let none = none_if_ok (map_fault bs) c.check.result c.check.ensures c.if-is_err.ensures.value in
     let sizes = sizes_right bs (no_size_fault bs none) in

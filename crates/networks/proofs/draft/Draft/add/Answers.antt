@@ -16,7 +16,7 @@ invariant_of-self c =
     let old = c.args.self.now.table in
     let none = answered_ok (refusal old.nodes c.len-place.result c.args.link) _ c.in_ok-admit.ensures in
     let sound = sound_unless old.nodes c.len-place.result c.args.link none (search rules) (search rules) in
-    (old.few, (omega arith, (sound_tried _ _ _ _ (is_ok c.push.result) c.push.ensures.items old.sound sound.1, tt)))
+    record { few = old.few; short = omega arith; sound = sound_tried _ _ _ _ (is_ok c.push.result) c.push.ensures.items old.sound sound.1 }
 
 pub returns-in_err-push : goal.returns-in_err-push
 returns-in_err-push c =
