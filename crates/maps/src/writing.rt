@@ -47,7 +47,7 @@ fn put_attributes(out: &mut [u8], at: usize, link: Link)
 
 // The first empty place, if any.
 fn first_empty<N: Network>(network: &N) -> Option<usize>
-    ensures { result ≡ first_empty 0 (meaning network.now).places }
+    ensures { result ≡ first_empty 0 (N.Network.meaning network.now).places }
 {
     for k in 0..network.place_count() {
         if network.place(k).is_none() {
@@ -59,7 +59,7 @@ fn first_empty<N: Network>(network: &N) -> Option<usize>
 
 // The questions before a map is written into `room` bytes; the length of the map.
 fn writable_len<N: Network>(network: &N, room: usize) -> Result<usize, MapFault>
-    ensures { result ≡ writable (meaning network.now) room }
+    ensures { result ≡ writable (N.Network.meaning network.now) room }
 {
     if network.node_count() == 0 {
         return Err(MapFault::Nodes(0));
@@ -77,7 +77,7 @@ fn writable_len<N: Network>(network: &N, room: usize) -> Result<usize, MapFault>
 // Writes the node count and the link count.
 fn write_sizes<N: Network>(network: &N, out: &mut [u8])
     requires { 4 ≤ length out.old }
-    ensures { out.new ≡ paste out.old 0 (sizes (meaning network.now)) 4 }
+    ensures { out.new ≡ paste out.old 0 (sizes (N.Network.meaning network.now)) 4 }
 {
     put16(out, 0, network.node_count() as u16);
     put16(out, 2, network.place_count() as u16);
@@ -85,8 +85,8 @@ fn write_sizes<N: Network>(network: &N, out: &mut [u8])
 
 // Writes the first array of a map: tails and heads.
 fn write_ends<N: Network>(network: &N, out: &mut [u8])
-    requires { (map_length (meaning network.now) ≤ length out.old) × (first_empty 0 (meaning network.now).places ≡ None) }
-    ensures { out.new ≡ paste out.old 4 (flat_map ends_in (meaning network.now).places) (4 * length (meaning network.now).places) }
+    requires { (map_length (N.Network.meaning network.now) ≤ length out.old) × (first_empty 0 (N.Network.meaning network.now).places ≡ None) }
+    ensures { out.new ≡ paste out.old 4 (flat_map ends_in (N.Network.meaning network.now).places) (4 * length (N.Network.meaning network.now).places) }
 {
     for k in 0..network.place_count() {
         if let Some(link) = network.place(k) {
@@ -97,8 +97,8 @@ fn write_ends<N: Network>(network: &N, out: &mut [u8])
 
 // Writes the second array of a map: figures and groups.
 fn write_attributes<N: Network>(network: &N, out: &mut [u8])
-    requires { (map_length (meaning network.now) ≤ length out.old) × (first_empty 0 (meaning network.now).places ≡ None) }
-    ensures { out.new ≡ paste out.old (4 + 4 * length (meaning network.now).places) (flat_map attributes_in (meaning network.now).places) (8 * length (meaning network.now).places) }
+    requires { (map_length (N.Network.meaning network.now) ≤ length out.old) × (first_empty 0 (N.Network.meaning network.now).places ≡ None) }
+    ensures { out.new ≡ paste out.old (4 + 4 * length (N.Network.meaning network.now).places) (flat_map attributes_in (N.Network.meaning network.now).places) (8 * length (N.Network.meaning network.now).places) }
 {
     let count = network.place_count();
     for k in 0..count {
@@ -111,10 +111,10 @@ fn write_attributes<N: Network>(network: &N, out: &mut [u8])
 // Writes the map of a network to the start of `out` and answers its length, or refuses and writes nothing.
 // What was written passes the check and opens as that network.
 pub fn write<N: Network>(network: &N, out: &mut [u8]) -> Result<usize, MapFault>
-    ensures value { result ≡ writable (meaning network.now) (length out.old) }
-    ensures bytes { out.new ≡ written (meaning network.now) out.old result }
+    ensures value { result ≡ writable (N.Network.meaning network.now) (length out.old) }
+    ensures bytes { out.new ≡ written (N.Network.meaning network.now) out.old result }
     ensures byte { AtByteZero result }
-    ensures back { ReadsBack (meaning network.now) out.new result }
+    ensures back { ReadsBack (N.Network.meaning network.now) out.new result }
 {
     let len = writable_len(network, out.len())?;
     write_sizes(network, out);

@@ -22,7 +22,7 @@ pub returns-in-empty : goal.returns-in-empty
 returns-in-empty c =
     let parts = c.split_at.ensures in
     record {
-      words = last _ _ _ parts.by_index.0 (omega (arith, ltb-true, ltb-false)) (clear c.args.rest.now _ _ parts.front-len c.word_len.ensures.before parts.by_index.1);
+      words = last _ _ _ parts.by_index.0 (omega (arith, ltb-true, ltb-false)) (clear c.args.rest.now _ _ parts.front_len c.word_len.ensures.before parts.by_index.1);
       room = omega arith;
     }
 
@@ -31,6 +31,6 @@ returns-in-len1-up c =
     let parts = c.split_at.ensures in
     let space : get_or c.split_at.result.1.now 0 0 ≡ 32 = parts.by_index.2 0 0 ∙ rw add-zero (c.word_len.ensures.found (omega (arith, ltb-true, ltb-false))) in
     record {
-      words = more _ _ _ parts.by_index.0 (omega (arith, ltb-true, ltb-false)) space (clear c.args.rest.now _ _ parts.front-len c.word_len.ensures.before parts.by_index.1);
+      words = more _ _ _ parts.by_index.0 (omega (arith, ltb-true, ltb-false)) space (clear c.args.rest.now _ _ parts.front_len c.word_len.ensures.before parts.by_index.1);
       room = rw (take_rest c.split_at.result.1.now 1) (simp length-drop (omega (arith, ltb-true, ltb-false)));
     }

@@ -7,4 +7,4 @@ pub returns : goal.returns
 returns c =
     let bs = c.args.bytes.now in
     let none : map_fault bs ≡ None = search rules in
-    rewritten_from bs c.args.out.now c.write.new.out _ c.write.result (λ i. omega (arith, (c.type-inv.bytes i).fits)) none c.open.ensures c.write.ensures.value c.write.ensures.bytes
+    rewritten_from bs c.args.out.now c.write.new.out _ c.write.result (λ i. omega (arith, (c.type_inv.bytes i).fits)) none c.open.ensures c.write.ensures.value c.write.ensures.bytes

@@ -9,4 +9,4 @@ invariant_of-result-2 c =
     let bs = c.args.bytes.now in
     let none = none_if_ok (map_fault bs) c.check.result c.check.ensures c.if-is_err.ensures.value in
     let sizes = sizes_right bs (no_size_fault bs none) in
-    (sizes.0, (sizes.1, (sizes.2, (well_formed bs (λ i. omega (arith, (c.type-inv.bytes i).fits)) none, tt))))
+    record { few = sizes.0; short = sizes.1; long = sizes.2; sound = well_formed bs (λ i. omega (arith, (c.type_inv.bytes i).fits)) none }
