@@ -1,6 +1,6 @@
 use Rattle.std.proofs.Common.{◌+◌, length}
 use Rattle.definitions.specs.Networks.{place}
-use Rattle.definitions.specs.Searches.{goal as valued}
+use Rattle.definitions.specs.Searches.{given as valued}
 use Rattle.heap.specs.Holds.{held}
 use Rattle.frontier.specs.Progress.{links_open, Walking}
 use Rattle.search.proofs.steps.next_links.Given as goal

@@ -38,7 +38,7 @@ loop-cursor-preserved g c =
     let (at, le, none, own) = turn_bound net _ _ c.requires.indexed from.node c.in-Some.link k c.loop-cursor.cursor
     c.at-cursor-in-Some.result c.in-Some.is c.from-k.ensures (c.loop-cursor.invariant.1 c.requires.indexed) c.at-cursor-in-Some.ensures in
     let here : HopOffering ρ net d s from old c.loop-cursor.heap (k + 1) = subst (HopOffering ρ net d s from old c.loop-cursor.heap) at c.loop-cursor.invariant.0 in
-    let then : HopOffering ρ net d s from old c.match-offer_hop.alloc k = elim c.match-offer_hop.branch [
+    let then : HopOffering ρ net d s from old c.match-offer_hop.heap k = elim c.match-offer_hop.branch [
       | in-Some-offer_hop w ↦ subst (λ h. HopOffering ρ net d s from old h k) (sym w.heap-is)
           (hopping_some ρ net d s from old _ L k _ here c.requires.room w.in-Some-offer_hop.hop w.in-Some-offer_hop.ensures
           w.push.result _ w.push.ensures.entries w.push.ensures.room w.push.ensures.order w.push.ensures.slots)

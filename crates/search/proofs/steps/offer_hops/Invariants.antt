@@ -1,5 +1,5 @@
 use Rattle.definitions.specs.Networks.{place}
-use Rattle.definitions.specs.Searches.{goal as valued}
+use Rattle.definitions.specs.Searches.{given as valued}
 use Rattle.frontier.specs.Indexes.{Indexed}
 use Rattle.frontier.specs.Progress.{above, Owns, HopOffering}
 use Rattle.search.proofs.steps.offer_hops.Given as goal

@@ -37,7 +37,7 @@ loop-cursor-preserved g c =
     let (at, le, none, own) = turn_bound net _ _ c.requires.indexed from.node c.in-Some.link k c.loop-cursor.cursor
     c.at-cursor-in-Some.result c.in-Some.is c.from-k.ensures (c.loop-cursor.invariant.1 c.requires.indexed) c.at-cursor-in-Some.ensures in
     let here : Offering m r net d from old c.loop-cursor.heap (k + 1) = subst (Offering m r net d from old c.loop-cursor.heap) at c.loop-cursor.invariant.0 in
-    let then : Offering m r net d from old c.match-offer.alloc k = elim c.match-offer.branch [
+    let then : Offering m r net d from old c.match-offer.heap k = elim c.match-offer.branch [
       | in-Some-offer w ↦ subst (λ h. Offering m r net d from old h k) (sym w.heap-is)
           (offering_some m M r net c.requires.fitting N d from old k _ here c.requires.room w.in-Some-offer.entry w.in-Some-offer.ensures
           w.push.result _ w.push.ensures.entries w.push.ensures.room w.push.ensures.order w.push.ensures.slots)
