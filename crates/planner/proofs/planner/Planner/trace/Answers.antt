@@ -30,8 +30,8 @@ returns-in_err-destination g c = trace_kept g.M.Measure.scale g.met.M.Measure.la
     let x = err_from_is_err_and c.from_residual.result c.from_residual.ensures.1 in
     trace_refused g.M.Measure.scale g.met.M.Measure.lawful (state g.N.Network.meaning p) (g.N.Network.limits p.network) R c.args.node c.readable.result c.readable.ensures c.args.places.now _ c.args.failure _ _ c.in_err-destination.was (x.1 ∙ ap Err x.2) refl)
 
-pub returns-in_err-check-failure : goal.returns-in_err-check-failure
-returns-in_err-check-failure g c = trace_kept g.M.Measure.scale g.met.M.Measure.lawful (state g.N.Network.meaning c.args.self.now) (g.N.Network.limits c.args.self.now.network) c.args.node c.args.places.now _ c.args.failure _ (λ R.
+pub returns-in_err-check_failure : goal.returns-in_err-check_failure
+returns-in_err-check_failure g c = trace_kept g.M.Measure.scale g.met.M.Measure.lawful (state g.N.Network.meaning c.args.self.now) (g.N.Network.limits c.args.self.now.network) c.args.node c.args.places.now _ c.args.failure _ (λ R.
     let p = c.args.self.now in
     let x = err_from_is_err_and c.from_residual-in_err-check-failure.result c.from_residual-in_err-check-failure.ensures.1 in
     trace_denied g.M.Measure.scale g.met.M.Measure.lawful (state g.N.Network.meaning p) (g.N.Network.limits p.network) R c.args.node c.readable.result c.readable.ensures c.args.places.now _ c.args.failure _ _ _ c.in_ok-destination.was c.check-failure.result c.check-failure.ensures _ c.in_err-check-failure.was (x.1 ∙ ap Err x.2) refl)
@@ -43,8 +43,8 @@ returns-then-places-passed g c = trace_kept g.M.Measure.scale g.met.M.Measure.la
     subst₂ (λ a b. Turned (withdrawn a (g.N.Network.meaning p.network)) b c.in_ok-destination.destination c.args.failure c.args.node c.turning_point-turn.result.0 c.turning_point-turn.result.1) c.deref.ensures.value c.deref-2.ensures.value c.turning_point-turn.ensures.turned in
     trace_no_room g.M.Measure.scale g.met.M.Measure.lawful (state g.N.Network.meaning p) (g.N.Network.limits p.network) R c.args.node c.readable.result c.readable.ensures c.args.places.now _ c.args.failure _ _ _ c.in_ok-destination.was c.check-failure.result c.check-failure.ensures c.in_ok-check-failure.was _ _ (all p) turn c.if-turn-destination.true c.if-places-passed.true refl refl)
 
-pub write-backup-requires : goal.write-backup-requires
-write-backup-requires g c = omega (arith, c.turning_point-turn.ensures.passed, c.deref-2.ensures.len, c.args.self.now.nodes)
+pub write_backup-requires : goal.write_backup-requires
+write_backup-requires g c = omega (arith, c.turning_point-turn.ensures.passed, c.deref-2.ensures.len, c.args.self.now.nodes)
 
 pub returns-in_err-count : goal.returns-in_err-count
 returns-in_err-count g c = trace_kept g.M.Measure.scale g.met.M.Measure.lawful (state g.N.Network.meaning c.args.self.now) (g.N.Network.limits c.args.self.now.network) c.args.node c.args.places.now _ c.args.failure _ (λ R.
@@ -54,22 +54,22 @@ returns-in_err-count g c = trace_kept g.M.Measure.scale g.met.M.Measure.lawful (
     subst₂ (λ a b. Turned (withdrawn a (g.N.Network.meaning p.network)) b c.in_ok-destination.destination c.args.failure c.args.node c.turning_point-turn.result.0 c.turning_point-turn.result.1) c.deref.ensures.value c.deref-2.ensures.value c.turning_point-turn.ensures.turned in
     trace_no_room_after g.M.Measure.scale g.met.M.Measure.lawful (state g.N.Network.meaning p) (g.N.Network.limits p.network) R c.args.node c.readable.result c.readable.ensures c.args.places.now _ c.args.failure _ _ _ c.in_ok-destination.was c.check-failure.result c.check-failure.ensures c.in_ok-check-failure.was _ _ (all p) turn c.if-turn-destination.false _ c.write-backup.result c.write-backup.ensures.answer _ c.in_err-count.was (x.1 ∙ ap Err x.2) refl)
 
-pub slice-bounds-write_places-end : goal.slice-bounds-write_places-end
-slice-bounds-write_places-end g c = elim c.if-turn-destination.branch [
+pub slice_bounds-write_places-end : goal.slice_bounds-write_places-end
+slice_bounds-write_places-end g c = elim c.if-turn-destination.branch [
   | then-turn-destination+else-places-passed w ↦ omega (arith, w.if-places-passed.false, c.if-turn-destination.auto.places)
   | else-turn-destination+in_ok-count w ↦ omega (arith, w.in_ok-count.ensures.room.0, w.in_ok-count.ensures.room.1, c.if-turn-destination.auto.places)
 ]
 
-pub slice-bounds-write_places-end-2 : goal.slice-bounds-write_places-end-2
-slice-bounds-write_places-end-2 g c =
+pub slice_bounds-write_places-end-2 : goal.slice_bounds-write_places-end-2
+slice_bounds-write_places-end-2 g c =
     let le : c.turning_point-turn.result.1 ≤ length c.if-turn-destination.places = elim c.if-turn-destination.branch [
       | then-turn-destination+else-places-passed w ↦ omega (arith, w.if-places-passed.false, c.if-turn-destination.auto.places)
       | else-turn-destination+in_ok-count w ↦ omega (arith, w.in_ok-count.ensures.room.0, w.in_ok-count.ensures.room.1, c.if-turn-destination.auto.places)
     ] in
     cut c.turning_point-turn.result.1 c.if-turn-destination.places le
 
-pub slice-bounds-plain_value-end : goal.slice-bounds-plain_value-end
-slice-bounds-plain_value-end g c =
+pub slice_bounds-plain_value-end : goal.slice_bounds-plain_value-end
+slice_bounds-plain_value-end g c =
     let both : (c.turning_point-turn.result.1 ≤ length c.if-turn-destination.places) × (c.if-turn-destination.count ≤ length c.if-turn-destination.places) = elim c.if-turn-destination.branch [
       | then-turn-destination+else-places-passed w ↦ (omega (arith, w.if-places-passed.false, c.if-turn-destination.auto.places), omega (arith, w.count-is, w.if-places-passed.false, c.if-turn-destination.auto.places))
       | else-turn-destination+in_ok-count w ↦ (
@@ -79,8 +79,8 @@ slice-bounds-plain_value-end g c =
     ] in
     long c.if-turn-destination.count c.turning_point-turn.result.1 c.write_places.new.places c.if-turn-destination.places both.0 c.write_places.auto.places both.1
 
-pub slice-bounds-plain_value-end-2 : goal.slice-bounds-plain_value-end-2
-slice-bounds-plain_value-end-2 g c =
+pub slice_bounds-plain_value-end-2 : goal.slice_bounds-plain_value-end-2
+slice_bounds-plain_value-end-2 g c =
     let both : (c.turning_point-turn.result.1 ≤ length c.if-turn-destination.places) × (c.if-turn-destination.count ≤ length c.if-turn-destination.places) = elim c.if-turn-destination.branch [
       | then-turn-destination+else-places-passed w ↦ (omega (arith, w.if-places-passed.false, c.if-turn-destination.auto.places), omega (arith, w.count-is, w.if-places-passed.false, c.if-turn-destination.auto.places))
       | else-turn-destination+in_ok-count w ↦ (
