@@ -9,11 +9,13 @@ use Rattle.histories.specs.Answers.{WithdrawAnswer, RestoreAnswer, PlanAnswer}
 use Rattle.histories.specs.Histories.{Follows}
 use Rattle.histories.proofs.History.{withdraw_right, restore_right, plan_right}
 use Rattle.histories.proofs.Following.{withdraw_follows, restore_follows, plan_follows}
+use Rattle.networks.specs.declared.network.Network.{Ghosts as NetworkGhosts}
+use Rattle.measures.specs.declared.Measure.{Ghosts as MeasureGhosts}
 use Rattle.planner.specs.declared.planner.Planner.{Planner}
 use Rattle.planner.specs.Planners.{state, Unchanged}
 use Rattle.planner.proofs.Room.{room}
 
-module _ {N M : Type 0} (meaning : N → Net) (limits : (x : N) → Limits (meaning x)) (m : Scale) (p p' : Planner N M) where
+module _ {N M : Type 0} {gn : NetworkGhosts N} {gm : MeasureGhosts M} (meaning : N → Net) (limits : (x : N) → Limits (meaning x)) (m : Scale) (p p' : Planner N M gn gm) where
   pub withdraw_kept : (k : ℕ) (r : Result (Unit {0}) PlannerFault) → WithdrawAnswer (state meaning p) k r (state meaning p') → p'.network ≡ p.network → Unchanged r p p' →
       record {
         answer : WithdrawAnswer (state meaning p) k r (state meaning p');

@@ -28,7 +28,7 @@ returns g c = record {
         marks = refl;
         standing = refl;
         right = (lt, subst (λ rs. Recorded (worst m (in_service s) t) (in_service s) t rs) (sym items) found);
-        count = subst (λ x. Planned m (in_service s) t x) (sym (c.guaranteed-nodes.ensures ∙ ap tallied (ap₂ take c.node_count.ensures (c.deref-2.ensures.value ∙ items))))
+        count = subst (λ x. Planned m (in_service s) t x) (sym (c.guaranteed_nodes.ensures ∙ ap tallied (ap₂ take c.node_count.ensures (c.deref-2.ensures.value ∙ items))))
             (counted m g.met.M.Measure.lawful (in_service s) (service_limits s (g.N.Network.limits p.network)) t ws found n.nodes (omega (arith, (g.N.Network.limits p.network).few_nodes, c.worst_records.auto.records, c.deref_mut.ensures.len, p.nodes)));
       };
   keeps = refl;
