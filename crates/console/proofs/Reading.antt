@@ -1,5 +1,5 @@
 -- A printed command reads as itself.
-use Rattle.std.proofs.Common.{◌≡◌, ℕ, ◌+◌, ◌^◌, ◌<◌, ◌≤◌, Bool, true, false, cond, ◌&&◌, ltb, leb, List, [], ◌∷◌, ◌++◌, length, get_or, take, Ok, Err, decimal, Result, sym, refl, ap, ◌∙◌, subst, ⊎_elim, arith, length-append, length-take, rules}
+use Rattle.std.proofs.Common.{◌≡◌, ℕ, ◌+◌, ◌^◌, ◌<◌, ◌≤◌, true, ltb, leb, List, [], ◌∷◌, ◌++◌, length, get_or, take, Ok, Err, decimal, sym, refl, ap, ◌∙◌, ⊎_elim, arith, length-append, length-take, rules}
 use Rattle.std.specs.Str.{all_ascii_digits}
 use Rattle.std.proofs.lemmas.Fmt.{digits_decimal, digits_value-decimal, decimal_nonempty, length-decimal-le}
 use Rattle.std.proofs.lemmas.List.{take_all}
@@ -7,10 +7,9 @@ use Rattle.std.proofs.lemmas.Str.Parse.{IsNumeralModel, numerals_by_fold, tells_
 use Rattle.std.proofs.lemmas.Bool.{lt-ltb, le-ltb, le-leb, cond-true, cond-false, cases_lt, and_from}
 use Rattle.console.specs.declared.command.Command.{Command}
 use Rattle.console.specs.declared.command.Command.TheVariants.{Plan, Guarantee, Route, Backup, Withdraw, Restore, TraceLink, TraceGroup}
-use Rattle.console.specs.declared.command.LineFault.{LineFault}
 use Rattle.console.specs.declared.command.LineFault.TheVariants.{BadWord}
-use Rattle.console.specs.Grammar.{bind, number_at, last_number, one, two, asked, sentence, reading}
-use Rattle.console.specs.Words.{words, begun, is_digits, number_of}
+use Rattle.console.specs.Grammar.{number_at, last_number, one, two, sentence, reading}
+use Rattle.console.specs.Words.{words, is_digits, number_of}
 use Rattle.console.specs.Commands.{field, printed, SixteenBits}
 use Rattle.console.proofs.WordLaws.{words_last, words_more}
 

@@ -1,5 +1,4 @@
 -- Layer, number and place of each fault of a line.
-use Rattle.std.specs.Prelude.{ℕ}
 use Rattle.definitions.specs.declared.FaultCode.{FaultCode}
 use Rattle.console.specs.declared.command.LineFault.{LineFault}
 use Rattle.console.specs.declared.command.LineFault.TheVariants.{BadWord, TooLarge}

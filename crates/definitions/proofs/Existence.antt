@@ -1,13 +1,13 @@
 -- Every network has best values and next links to every destination: a search by hand, with no heap.
-use Rattle.std.proofs.Common.{◌≡◌, ℕ, zero, suc, ◌<◌, ◌≤◌, Bool, true, false, cond, eqb, ◌⊎◌, List, [], ◌∷◌, length, Some, None, Option, sym, refl, ap, ◌∙◌, subst, inl, inr, arith}
-use mathlib.Core.Logic.{∥∥₁_elim, ∥∥₁_map, ∥∥₁_prop}
+use Rattle.std.proofs.Common.{◌≡◌, ℕ, zero, suc, ◌<◌, ◌≤◌, true, cond, eqb, ◌⊎◌, List, [], ◌∷◌, length, Some, None, Option, sym, refl, ap, ◌∙◌, subst, inl, inr, arith}
+use mathlib.Core.Logic.{∥∥₁_elim, ∥∥₁_map}
 use mathlib.Core.HLevel.{⊥_prop}
 use native.Mathlib.Decide.{ℕ_discrete}
 use Rattle.std.proofs.lemmas.Bool.{cond-true, cond-false, eq-eqb, ne_eqb, leb-true, cases_lt}
 use Rattle.definitions.specs.declared.Link.{Link}
 use Rattle.definitions.specs.Networks.{Net, Holds, Limits, place}
 use Rattle.definitions.specs.Measures.{Scale, Laws}
-use Rattle.definitions.specs.Routes.{Valuation, RouteValue, Tight, count_tight}
+use Rattle.definitions.specs.Routes.{Valuation, Tight, count_tight}
 use Rattle.definitions.specs.Plans.{plain}
 use Rattle.definitions.specs.Searches.{LabelChain, Labels, Nexts}
 use Rattle.definitions.proofs.Fixpoint.{Lawful, itself, met_fits}

@@ -1,14 +1,14 @@
 -- Steps, next links and held routes, from the labels that two searches end with.
-use Rattle.std.proofs.Common.{◌≡◌, ℕ, zero, suc, pred, ◌<◌, ◌≤◌, Bool, true, false, cond, leb, ◌⊎◌, List, [], ◌∷◌, length, Some, None, Option, sym, refl, ap, ◌∙◌, subst, inl, inr, arith}
-use mathlib.Core.Logic.{∥∥₁_elim, ∥∥₁_map}
+use Rattle.std.proofs.Common.{◌≡◌, ℕ, zero, suc, pred, List, [], ◌∷◌, length, Some, None, Option, sym, refl, ap, ◌∙◌, subst, inl, inr, arith}
+use mathlib.Core.Logic.{∥∥₁_elim}
 use mathlib.Core.HLevel.{⊥_prop}
 use native.Mathlib.Decide.{ℕ_discrete}
-use Rattle.std.proofs.lemmas.Bool.{leb-true, le-leb, cases_order, cases_eq}
+use Rattle.std.proofs.lemmas.Bool.{le-leb, cases_order}
 use Rattle.definitions.specs.declared.Link.{Link}
 use Rattle.definitions.specs.Networks.{Net, Holds}
-use Rattle.definitions.specs.Routes.{Valuation, Route, RouteValue, Best, NoRoute, Tight, count_tight, Steps, Next, Held}
+use Rattle.definitions.specs.Routes.{Valuation, Route, RouteValue, Best, Tight, count_tight, Steps, Next, Held}
 use Rattle.definitions.specs.Searches.{LabelChain, Labels, Nexts}
-use Rattle.definitions.proofs.Fixpoint.{Lawful, itself, past_start, best_one, label_best, best_label, label_bound}
+use Rattle.definitions.proofs.Fixpoint.{Lawful, past_start, best_one, label_best, best_label, label_bound}
 use Rattle.definitions.proofs.Lawfuls.{count_lawful, Any}
 use Rattle.definitions.proofs.Layers.{same_link}
 

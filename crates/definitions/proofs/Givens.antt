@@ -1,17 +1,17 @@
 -- The searches run on given recovery values; from that to worst and to plain values.
-use Rattle.std.proofs.Common.{◌≡◌, ℕ, zero, suc, ◌^◌, ◌<◌, ◌≤◌, Bool, true, false, cond, ◌⊎◌, List, [], ◌∷◌, Some, None, Option, sym, refl, ap, ◌∙◌, subst, inl, inr, arith}
+use Rattle.std.proofs.Common.{◌≡◌, ℕ, true, List, [], ◌∷◌, Some, None, Option, sym, refl, ap, ◌∙◌}
 use mathlib.Core.Bool.{Bool-set}
 use mathlib.Core.HLevel.{⊥_prop}
 use mathlib.Core.Logic.{∥∥₁_elim, ∥∥₁_map}
 use native.Mathlib.Bridge.{le_prop}
 use Rattle.std.proofs.lemmas.Bool.{cond-true}
 use Rattle.definitions.specs.declared.Link.{Link}
-use Rattle.definitions.specs.Networks.{Net, Holds, Limits, risks, at_risk}
+use Rattle.definitions.specs.Networks.{Net, Holds, Limits, at_risk}
 use Rattle.definitions.specs.Measures.{Scale, Laws, worse}
-use Rattle.definitions.specs.Routes.{Valuation, RouteValue, Best, NoRoute, Tight, Steps}
+use Rattle.definitions.specs.Routes.{Valuation, NoRoute, Tight}
 use Rattle.definitions.specs.Plans.{plain, worst, Recovery}
 use Rattle.definitions.specs.Searches.{given, LabelChain, Labels, Nexts}
-use Rattle.definitions.proofs.Fixpoint.{Lawful, past_start, value_fits, best_fits, label_best, best_label, label_fits, chain_value}
+use Rattle.definitions.proofs.Fixpoint.{Lawful, past_start, label_fits, chain_value}
 use Rattle.definitions.proofs.Following.{tight_labels, labels_tight}
 use Rattle.definitions.proofs.Lawfuls.{Value, worse_fits, worse_right, worse_keeps, plain_lawful, worst_lawful, recovery_one, recovery_fits}
 

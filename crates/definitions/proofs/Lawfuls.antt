@@ -1,14 +1,14 @@
 -- Plain values, worst values and counts of tight links are lawful.
-use Rattle.std.proofs.Common.{◌≡◌, ℕ, zero, suc, ◌^◌, ◌<◌, ◌≤◌, Bool, true, false, cond, leb, ◌⊎◌, List, [], ◌∷◌, sym, refl, ap, ◌∙◌, subst, inl, inr, le_antisymm, arith}
+use Rattle.std.proofs.Common.{◌≡◌, ℕ, suc, ◌^◌, ◌<◌, Bool, true, false, cond, ◌⊎◌, refl, inl, inr, le_antisymm, arith}
 use mathlib.Core.HLevel.{Unit-prop}
 use native.Mathlib.Bridge.{le_prop}
-use Rattle.std.proofs.lemmas.Bool.{leb-true, le-leb, cases_lt, cases_Bool, cond-true, cond-false}
+use Rattle.std.proofs.lemmas.Bool.{leb-true, le-leb, cases_lt}
 use Rattle.definitions.specs.declared.Link.{Link}
-use Rattle.definitions.specs.Networks.{Net, Holds, Sound, Limits, at_risk, risks}
+use Rattle.definitions.specs.Networks.{Net, Holds, Limits, at_risk, risks}
 use Rattle.definitions.specs.Measures.{Scale, Laws, worse}
-use Rattle.definitions.specs.Routes.{Valuation, RouteValue, Best, Tight, count_tight}
+use Rattle.definitions.specs.Routes.{Valuation, count_tight}
 use Rattle.definitions.specs.Plans.{plain, worst, Recovery}
-use Rattle.definitions.proofs.Fixpoint.{Lawful, itself, best_fits, best_one}
+use Rattle.definitions.proofs.Fixpoint.{Lawful, best_fits, best_one}
 use Rattle.definitions.proofs.Layers.{without_limits}
 
 abbrev pub Value : ℕ → Type 0

@@ -1,8 +1,8 @@
 -- What a layer holds, and that it keeps the limits of a network.
-use Rattle.std.proofs.Common.{◌≡◌, ℕ, zero, suc, ◌/◌, ◌%◌, ◌^◌, ◌<◌, ◌≤◌, Bool, true, false, cond, not, ◌||◌, eqb, ◌⊎◌, List, [], ◌∷◌, length, get_or, Some, None, Option, sym, refl, ap, ◌∙◌, subst, inl, inr, arith}
+use Rattle.std.proofs.Common.{◌≡◌, ℕ, zero, suc, ◌<◌, ◌≤◌, Bool, true, false, cond, eqb, List, [], ◌∷◌, length, get_or, Some, None, Option, sym, refl, ap, ◌∙◌, subst, arith}
 use Rattle.std.proofs.lemmas.Bool.{cond-true, cond-false, or_left, or_right, or_from, eq-eqb, ne_eqb}
 use Rattle.definitions.specs.declared.Link.{Link}
-use Rattle.definitions.specs.Networks.{Net, Holds, Sound, Limits, place, emptied, without, withdrawn, share_group, risks, at_risk}
+use Rattle.definitions.specs.Networks.{Net, Holds, Limits, place, emptied, without, share_group, risks, at_risk}
 use Rattle.definitions.specs.Routes.{Route, Clear}
 
 pub place_emptied : (gone : ℕ → Bool) (ps : List (Option Link)) (k : ℕ) → place (emptied gone ps) k ≡ cond (gone k) None (place ps k)

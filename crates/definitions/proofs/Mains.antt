@@ -1,17 +1,16 @@
 -- The theorems that the contracts name.
-use Rattle.std.proofs.Common.{◌≡◌, ℕ, suc, ◌<◌, ◌↔◌, List, [], ◌∷◌, length, Some, None, Option, sym, refl, ap, ◌∙◌, subst}
+use Rattle.std.proofs.Common.{◌≡◌, ℕ, suc, List, [], ◌∷◌, length, Some, None, Option, sym, refl, ap, ◌∙◌}
 use mathlib.Core.HLevel.{⊥_prop}
 use mathlib.Core.Logic.{∥∥₁_elim, ∥∥₁_map}
 use native.Mathlib.Decide.{ℕ_discrete}
-use Rattle.definitions.specs.declared.Link.{Link}
 use Rattle.definitions.specs.declared.Failure.{Failure}
 use Rattle.definitions.specs.declared.Failure.TheVariants.{Nothing, OneLink, OneGroup}
-use Rattle.definitions.specs.Networks.{Net, Holds, Limits, risks, at_risk, failed}
+use Rattle.definitions.specs.Networks.{Net, Limits, risks, at_risk, failed}
 use Rattle.definitions.specs.Measures.{Scale, Laws, worse}
 use Rattle.definitions.specs.Routes.{Valuation, Route, RouteValue, Best, count_tight, Held}
-use Rattle.definitions.specs.Plans.{plain, worst, Recovery, BackedUp, ProtectedRoute, Guarantee}
+use Rattle.definitions.specs.Plans.{plain, worst, ProtectedRoute}
 use Rattle.definitions.specs.Searches.{Labels, Nexts}
-use Rattle.definitions.specs.Theorems.{plain_values, worst_values, LabelsAreBest, RightAt, NextsAreRight, BestValueExists, RecoveryExists, GuaranteeExists, OneHeld, HeldRouteExists, OneBackup, BackupExists, OneTrace, AtMostOne, TraceIsGuaranteed}
+use Rattle.definitions.specs.Theorems.{plain_values, worst_values, LabelsAreBest, RightAt, NextsAreRight, BestValueExists, RecoveryExists, GuaranteeExists, HeldRouteExists, BackupExists, OneTrace, AtMostOne, TraceIsGuaranteed}
 use Rattle.definitions.proofs.Fixpoint.{Lawful, label_best, label_none}
 use Rattle.definitions.proofs.Layers.{below, layer_route, route_layer}
 use Rattle.definitions.proofs.Lawfuls.{Value, Any, plain_lawful, worst_lawful, count_lawful}

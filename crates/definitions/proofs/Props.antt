@@ -1,12 +1,12 @@
 -- What has at most one proof, and so comes out of a truncated fact.
-use Rattle.std.proofs.Common.{◌≡◌, ℕ, Bool, true, List, Some, None, Option, refl, ap}
+use Rattle.std.proofs.Common.{◌≡◌, ℕ, Some, None, Option, refl}
 use mathlib.Core.Bool.{Bool-set}
 use mathlib.Core.HLevel.{⊥_prop, ¬_prop, Π_prop}
 use native.Mathlib.Bridge.{le_prop}
 use mathlib.Core.Logic.{∥∥₁_prop, ∥∥₁_elim}
 use Rattle.definitions.specs.declared.Link.{Link}
 use Rattle.definitions.specs.Networks.{Net, Sound, Limits}
-use Rattle.definitions.specs.Routes.{Valuation, RouteValue, Best, NoRoute, BestIs}
+use Rattle.definitions.specs.Routes.{Valuation, Best, NoRoute, BestIs}
 use Rattle.definitions.specs.Searches.{Labels}
 use Rattle.definitions.proofs.Fixpoint.{Lawful, label_best, label_none}
 

@@ -1,12 +1,11 @@
 -- The steps of the search for the best values, over any heap.
-use Rattle.std.proofs.Common.{◌≡◌, ℕ, zero, suc, ◌<◌, ◌≤◌, Bool, true, false, ◌⊎◌, List, [], ◌∷◌, Some, None, Option, sym, refl, ap, ◌∙◌, subst, inl, inr, arith}
+use Rattle.std.proofs.Common.{◌≡◌, ℕ, true, ◌⊎◌, List, [], ◌∷◌, Some, None, Option, sym, refl, ap, ◌∙◌, subst, inl, inr, arith}
 use mathlib.Core.Bool.{Bool-set}
 use mathlib.Core.Logic.{∥∥₁_elim, ∥∥₁_map, ∥∥₁_prop}
-use mathlib.Core.HLevel.{⊥_prop}
 use native.Mathlib.Decide.{ℕ_discrete}
 use Rattle.definitions.specs.declared.Link.{Link}
 use Rattle.definitions.specs.Networks.{Net, Holds}
-use Rattle.definitions.specs.Routes.{Valuation, RouteValue}
+use Rattle.definitions.specs.Routes.{Valuation}
 use Rattle.definitions.specs.Searches.{LabelChain, Labels, Running}
 use Rattle.definitions.proofs.Fixpoint.{Lawful, itself, met_fits}
 use Rattle.definitions.proofs.Layers.{same_link}

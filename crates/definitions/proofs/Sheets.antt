@@ -1,11 +1,10 @@
 -- A sheet of labels for a network, found by computing, and a test that says that it is right.
-use Rattle.std.proofs.Common.{◌≡◌, ℕ, zero, suc, ◌<◌, ◌≤◌, Bool, true, false, cond, not, ◌&&◌, ◌||◌, eqb, leb, ◌⊎◌, List, [], ◌∷◌, length, set, replicate, Some, None, Option, sym, refl, ap, ◌∙◌, subst, inl, inr, arith}
+use Rattle.std.proofs.Common.{◌≡◌, ℕ, zero, suc, Bool, true, false, not, ◌&&◌, ◌||◌, eqb, leb, List, [], ◌∷◌, Some, None, Option, sym, refl, ap, ◌∙◌, subst, inl, inr, arith}
 use native.Mathlib.Decide.{ℕ_discrete}
-use Rattle.std.proofs.lemmas.Bool.{and_parts, or_cases, eqb-true, eqb-false, eq-eqb, leb-true, not-true, cases_Bool}
+use Rattle.std.proofs.lemmas.Bool.{and_parts, or_cases, eqb-true, eq-eqb, leb-true}
 use Rattle.definitions.specs.declared.Link.{Link}
-use Rattle.definitions.specs.Networks.{Net, Holds, Limits, place}
-use Rattle.definitions.specs.Measures.{Scale, Laws, worse}
-use Rattle.definitions.specs.Routes.{Valuation, Tight}
+use Rattle.definitions.specs.Networks.{Net, Holds, place}
+use Rattle.definitions.specs.Measures.{Scale, worse}
 use Rattle.definitions.specs.Searches.{given, LabelChain, Labels, Nexts}
 use Rattle.definitions.proofs.Fixpoint.{Lawful}
 use Rattle.definitions.proofs.Following.{tight_labels, labels_tight}

@@ -1,8 +1,7 @@
 -- A held route passes no node twice, so it has fewer links than the network has nodes.
-use Rattle.std.proofs.Common.{◌≡◌, ℕ, zero, suc, ◌+◌, ◌<◌, ◌≤◌, Bool, true, false, cond, eqb, List, [], ◌∷◌, length, Some, None, Option, sym, refl, ap, ◌∙◌, subst, arith}
+use Rattle.std.proofs.Common.{◌≡◌, ℕ, zero, suc, ◌+◌, ◌<◌, ◌≤◌, Bool, true, false, cond, eqb, List, [], ◌∷◌, length, Some, None, sym, refl, ◌∙◌, subst, arith}
 use Rattle.std.proofs.lemmas.Bool.{eqb-true, eqb-false}
-use Rattle.definitions.specs.declared.Link.{Link}
-use Rattle.definitions.specs.Networks.{Net, Holds, Limits, place}
+use Rattle.definitions.specs.Networks.{Net, Limits, place}
 use Rattle.definitions.specs.Routes.{Valuation, Steps, Held}
 use Rattle.definitions.proofs.Following.{steps_one, steps_held}
 

@@ -1,14 +1,14 @@
 -- Claims on a network under a measure, decided by computing: the labels are found, tested, and read.
-use Rattle.std.proofs.Common.{◌≡◌, ℕ, zero, suc, pred, ◌^◌, ◌<◌, ◌≤◌, Bool, true, false, cond, not, ◌&&◌, ◌||◌, eqb, ltb, leb, ◌↔◌, List, [], ◌∷◌, length, get_or, set, replicate, Some, None, Option, sym, refl, ap, ◌∙◌, subst, arith}
+use Rattle.std.proofs.Common.{◌≡◌, ℕ, zero, suc, ◌^◌, Bool, true, false, cond, not, ◌&&◌, eqb, ltb, leb, ◌↔◌, List, [], ◌∷◌, length, get_or, set, replicate, Some, None, Option, sym, refl, ap, ◌∙◌, subst, arith}
 use mathlib.Core.HLevel.{⊥_prop}
 use mathlib.Core.Logic.{∥∥₁_elim}
 use Rattle.std.proofs.lemmas.Bool.{and_parts, and_from, eqb-true, eqb-false, eq-eqb, ne_eqb, leb-true, ltb-true, not-true, both_ways}
 use Rattle.definitions.specs.declared.Link.{Link}
 use Rattle.definitions.specs.declared.Failure.{Failure}
-use Rattle.definitions.specs.Networks.{Net, Holds, Sound, Limits, place, risks, at_risk, failed}
-use Rattle.definitions.specs.Measures.{Scale, Laws, worse}
-use Rattle.definitions.specs.Routes.{Valuation, RouteValue, Best, NoRoute, Tight, Steps, Next, Held}
-use Rattle.definitions.specs.Plans.{plain, worst, Recovery, BackedUp, Guarantee, Backup, Traced, arrived, onward, turned, Counted, none, one, skip, Planned}
+use Rattle.definitions.specs.Networks.{Net, Holds, Limits, place, risks, at_risk, failed}
+use Rattle.definitions.specs.Measures.{Scale, Laws}
+use Rattle.definitions.specs.Routes.{Valuation, RouteValue, NoRoute, Tight, Next, Held}
+use Rattle.definitions.specs.Plans.{plain, worst, Guarantee, Backup, Traced, arrived, onward, turned, Counted, none, one, skip, Planned}
 use Rattle.definitions.specs.Searches.{given, Labels, Nexts}
 use Rattle.definitions.specs.Example.{Claim, recovery, no_recovery, worst_value, guarantee, no_guarantee, planned, tight_links, steps, next_link, held, backup, trace, among, TracedAll, True, AllTrue, Case, AllCases, Kind, by_delay, by_width, scale, table}
 use Rattle.definitions.proofs.Fixpoint.{Lawful, label_best, label_none}
@@ -18,7 +18,7 @@ use Rattle.definitions.proofs.Lawfuls.{Value, plain_lawful, worst_lawful}
 use Rattle.definitions.proofs.Givens.{Recoveries, recoveries_lawful, worst_labels, worst_nexts, starts_lawful, plain_labels, plain_nexts, given_via, worst_via}
 use Rattle.definitions.proofs.Scales.{delay_laws, width_laws}
 use Rattle.definitions.proofs.Mains.{recovery_exists}
-use Rattle.definitions.proofs.Sheets.{none_or, some_and, none_or_at, some_and_at, every, every_at, Sheet, made, made_via, via_made, right?, right, sheet_labels, sheet_nexts}
+use Rattle.definitions.proofs.Sheets.{some_and, some_and_at, every, every_at, Sheet, made, made_via, via_made, right?, right, sheet_labels, sheet_nexts}
 
 -- Finding the labels. Nothing is proved of this: what it finds is tested.
 

@@ -1,14 +1,14 @@
 -- The trace: a route over links that have not failed, never worse than the guarantee, and equal to it for some failure.
-use Rattle.std.proofs.Common.{◌≡◌, ℕ, zero, suc, ◌/◌, ◌%◌, ◌^◌, ◌<◌, ◌≤◌, Bool, true, false, cond, not, ◌||◌, eqb, ◌⊎◌, List, [], ◌∷◌, length, Some, None, Option, sym, refl, ap, ◌∙◌, subst, inl, inr, arith}
+use Rattle.std.proofs.Common.{◌≡◌, ℕ, suc, ◌/◌, ◌%◌, ◌^◌, ◌≤◌, Bool, true, false, eqb, ◌⊎◌, List, [], ◌∷◌, length, Some, sym, refl, ap, ◌∙◌, subst, inl, inr, arith}
 use native.Mathlib.Nat.{zero-div}
 use lib.Bits.{bit_and, and_shr, and_mod}
 use Rattle.std.proofs.lemmas.Bool.{cases_Bool, eqb-true, eqb-false, eq-eqb, ne_eqb, or_parts, both_ways, not-false}
 use Rattle.definitions.specs.declared.Link.{Link}
 use Rattle.definitions.specs.declared.Failure.{Failure}
 use Rattle.definitions.specs.declared.Failure.TheVariants.{Nothing, OneLink, OneGroup}
-use Rattle.definitions.specs.Networks.{Net, Holds, Limits, place, without, risks, at_risk, share_group, in_group, failed}
+use Rattle.definitions.specs.Networks.{Net, Holds, Limits, without, risks, at_risk, share_group, in_group, failed}
 use Rattle.definitions.specs.Measures.{Scale, Laws, worse}
-use Rattle.definitions.specs.Routes.{Valuation, Route, RouteValue, Best, Tight, Steps, Next, Held}
+use Rattle.definitions.specs.Routes.{Valuation, Route, RouteValue, Best, Steps, Next, Held}
 use Rattle.definitions.specs.Plans.{plain, worst, Recovery, Guarantee, Backup, Traced, arrived, onward, turned}
 use Rattle.definitions.proofs.Fixpoint.{best_one, best_fits, itself, value_fits}
 use Rattle.definitions.proofs.Layers.{below, above, same_link, without_limits}

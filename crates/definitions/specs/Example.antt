@@ -1,5 +1,5 @@
 -- The example network, and what is known of it: one table, with the destination 3.
-use Rattle.std.specs.Prelude.{◌≡◌, ℕ, Bool, true, false, ◌||◌, ◌↔◌, List, [], ◌∷◌, Some, None, Option, ◌==◌}
+use Rattle.std.specs.Prelude.{◌≡◌, ℕ, Bool, true, false, ◌||◌, ◌↔◌, List, [], ◌∷◌, Some, Option, ◌==◌}
 use Rattle.definitions.specs.declared.Link.{Link}
 use Rattle.definitions.specs.declared.Failure.{Failure}
 use Rattle.definitions.specs.declared.Failure.TheVariants.{Nothing, OneLink, OneGroup}

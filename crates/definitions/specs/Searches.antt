@@ -1,5 +1,5 @@
 -- What the two searches end with, for any valuation, and the valuation that they run on.
-use Rattle.std.specs.Prelude.{◌≡◌, ℕ, suc, ◌≤◌, Bool, true, List, [], ◌∷◌, Some, None, Option, ◌≢◌}
+use Rattle.std.specs.Prelude.{◌≡◌, ℕ, suc, ◌≤◌, true, List, [], ◌∷◌, Some, None, Option, ◌≢◌}
 use Rattle.definitions.specs.declared.Link.{Link}
 use Rattle.definitions.specs.Networks.{Net, Holds}
 use Rattle.definitions.specs.Measures.{Scale, worse}

@@ -1,6 +1,6 @@
 -- What is proved of the definitions: for every lawful measure and every network within the limits, with no
 -- assumption that anything exists.
-use Rattle.std.specs.Prelude.{◌≡◌, ℕ, ◌<◌, Bool, true, ◌↔◌, List, length, Some, None, Option, ◌≢◌}
+use Rattle.std.specs.Prelude.{◌≡◌, ℕ, ◌<◌, true, ◌↔◌, List, length, Some, Option, ◌≢◌}
 use Rattle.definitions.specs.declared.Link.{Link}
 use Rattle.definitions.specs.declared.Failure.{Failure}
 use Rattle.definitions.specs.declared.Failure.TheVariants.{Nothing, OneLink, OneGroup}

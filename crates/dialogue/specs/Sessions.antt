@@ -10,6 +10,8 @@ use Rattle.definitions.specs.Measures.{Scale, delay, width}
 use Rattle.definitions.specs.Networks.{Net}
 use Rattle.histories.specs.Histories.{After}
 use Rattle.histories.specs.State.{State, Opened, Right}
+use Rattle.networks.specs.declared.network.Network.{Ghosts as NetworkGhosts}
+use Rattle.measures.specs.declared.Measure.{Ghosts as MeasureGhosts}
 use Rattle.planner.specs.Planners.{state, network_of}
 use Rattle.dialogue.specs.declared.dialogue.Dialogue.{Dialogue}
 use Rattle.dialogue.specs.declared.session.Session.{Session}
@@ -17,46 +19,46 @@ use Rattle.dialogue.specs.declared.session.Session.TheVariants.{Opening, ByDelay
 use Rattle.dialogue.specs.Dialogues.{next_number, LineAnswer}
 
 -- Has the session ended?
-abbrev pub is_over : {N : Type 0} → Session N → Bool
+abbrev pub is_over : {N : Type 0} {gn : NetworkGhosts N} → Session N gn → Bool
 is_over (Opening heap x) = false
 is_over (ByDelay d) = false
 is_over (ByWidth d) = false
 is_over Ended = true
 
-module _ {N : Type 0} (meaning : N → Net) where
+module _ {N : Type 0} {gn : NetworkGhosts N} (meaning : N → Net) where
   -- A dialogue just opened over the network x, after one line: its planner is what the empty list of calls leaves.
-  pub record Begun {M : Type 0} (m : Scale) (x : N) (d : Dialogue N M) : Type 0 where
+  pub record Begun {M : Type 0} {gm : MeasureGhosts M} (m : Scale) (x : N) (d : Dialogue N M gn gm) : Type 0 where
     pub network : network_of d.planner ≡ x
     pub opened : Opened (meaning x) (state meaning d.planner)
     pub after : After m (meaning x) [] (state meaning d.planner)
     pub lines : d.lines ≡ 1
 
   -- One line more of a dialogue.
-  pub record Later {M : Type 0} (m : Scale) (d : Dialogue N M) (line : List ℕ) (d' : Dialogue N M) (said : List ℕ) : Type 0 where
+  pub record Later {M : Type 0} {gm : MeasureGhosts M} (m : Scale) (d : Dialogue N M gn gm) (line : List ℕ) (d' : Dialogue N M gn gm) (said : List ℕ) : Type 0 where
     pub network : network_of d'.planner ≡ network_of d.planner
     pub lines : d'.lines ≡ next_number d.lines
     pub answer : LineAnswer m d'.lines (state meaning d.planner) line (state meaning d'.planner) said
 
   -- What the first line makes of a session over x.
-  abbrev pub First : Result MeasureName LineFault → N → Session N → List ℕ → Type 0
+  abbrev pub First : Result MeasureName LineFault → N → Session N gn → List ℕ → Type 0
   First (Ok Delay) x t said = (d : _) × (t ≡ ByDelay d) × Begun delay x d × (said ≡ opening_line Delay (meaning x).nodes (length (meaning x).places))
   First (Ok Width) x t said = (d : _) × (t ≡ ByWidth d) × Begun width x d × (said ≡ opening_line Width (meaning x).nodes (length (meaning x).places))
   First (Err f) x t said = (t ≡ Ended) × (said ≡ refusal_line 1 (line_code f))
 
   -- The session s answers the line by these bytes, and is then t.
-  abbrev pub Answered : Session N → List ℕ → Session N → List ℕ → Type 0
+  abbrev pub Answered : Session N gn → List ℕ → Session N gn → List ℕ → Type 0
   Answered (Opening heap x) line t said = First (measure_named line) x t said
   Answered (ByDelay d) line t said = (d' : _) × (t ≡ ByDelay d') × Later delay d line d' said
   Answered (ByWidth d) line t said = (d' : _) × (t ≡ ByWidth d') × Later width d line d' said
   Answered Ended line t said = (t ≡ Ended) × (said ≡ [])
 
   -- What the planner of a session holds is right.
-  abbrev pub Sound : Session N → Type 0
+  abbrev pub Sound : Session N gn → Type 0
   Sound (Opening heap x) = Unit {0}
   Sound (ByDelay d) = Right delay (state meaning d.planner)
   Sound (ByWidth d) = Right width (state meaning d.planner)
   Sound Ended = Unit {0}
 
   -- A sound session answers the line, and stays sound.
-  abbrev pub Answers : Session N → List ℕ → Session N → List ℕ → Type 0
+  abbrev pub Answers : Session N gn → List ℕ → Session N gn → List ℕ → Type 0
   Answers s line t said = Sound s → Answered s line t said × Sound t

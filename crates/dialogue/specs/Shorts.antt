@@ -5,6 +5,8 @@ use Rattle.console.proofs.Reading.{first_bytes}
 use Rattle.console.specs.FirstLine.{measure_named}
 use Rattle.definitions.specs.Measures.{Scale}
 use Rattle.definitions.specs.Networks.{Net}
+use Rattle.networks.specs.declared.network.Network.{Ghosts as NetworkGhosts}
+use Rattle.measures.specs.declared.Measure.{Ghosts as MeasureGhosts}
 use Rattle.planner.specs.Planners.{state}
 use Rattle.dialogue.specs.declared.dialogue.Dialogue.{Dialogue}
 use Rattle.dialogue.specs.declared.session.Session.{Session}
@@ -17,8 +19,8 @@ measure_short [] = refl
 measure_short (b ∷ []) = refl
 measure_short (b ∷ c ∷ bs) = refl
 
-module _ {N : Type 0} (meaning : N → Net) where
-  later_short : {M : Type 0} (m : Scale) (d d' : Dialogue N M) (line said : List ℕ) → Later meaning m d (take 65 line) d' said → Later meaning m d line d' said
+module _ {N : Type 0} {gn : NetworkGhosts N} (meaning : N → Net) where
+  later_short : {M : Type 0} {gm : MeasureGhosts M} (m : Scale) (d d' : Dialogue N M gn gm) (line said : List ℕ) → Later meaning m d (take 65 line) d' said → Later meaning m d line d' said
   later_short m d d' line said L =
       let A = L.answer in
       record {
@@ -34,7 +36,7 @@ module _ {N : Type 0} (meaning : N → Net) where
         };
       }
 
-  pub answers_short : (s t : Session N) (line said : List ℕ) → Answers meaning s (take 65 line) t said → Answers meaning s line t said
+  pub answers_short : (s t : Session N gn) (line said : List ℕ) → Answers meaning s (take 65 line) t said → Answers meaning s line t said
   answers_short (Opening heap x) t line said h = λ sound. let (a, z) = h sound in (subst (λ r. First meaning r x t said) (measure_short line) a, z)
   answers_short (ByDelay d) t line said h = λ sound. let ((d', e, L), z) = h sound in ((d', e, later_short _ d d' line said L), z)
   answers_short (ByWidth d) t line said h = λ sound. let ((d', e, L), z) = h sound in ((d', e, later_short _ d d' line said L), z)

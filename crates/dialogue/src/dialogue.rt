@@ -18,8 +18,7 @@ use lines::responder::NoMemory;
 use measures::Measure;
 use networks::network::Network;
 use planner::planner::Planner;
-use std::alloc::Global;
-use std::fmt;
+use std::alloc::{AllocError, Global};
 
 // A planner, and how many lines have come.
 pub struct Dialogue<N: Network, M: Measure> {
@@ -67,7 +66,7 @@ fn print_reply(
     number: u64,
     res: Result<(Command, Outcome), Cause>,
     buffer: &[u16],
-) -> fmt::Result
+) -> Result<(), AllocError>
     ensures { OnOk result (string_bytes out.new ≡ string_bytes out.old ++ reply number res buffer.now) }
 {
     match res {

@@ -128,7 +128,7 @@ pub fn converse<N: Network + Drop>(
     input: &[u8],
     out: &mut String,
 ) -> Result<(), NoMemory>
-    ensures { OnOk result (Added (string_bytes out.old) (string_bytes out.new) (λ said. (lines : List (List ℕ)) × (t : Session N) × TheLines input.now lines × Exchange (Answered N.Network.meaning) is_over lines (Opening heap network) t said)) }
+    ensures { OnOk result (Added (string_bytes out.old) (string_bytes out.new) (λ said. (lines : List (List ℕ)) × (t : Session N N.Network) × TheLines input.now lines × Exchange (Answered N.Network.meaning) is_over lines (Opening heap network) t said)) }
 {
     let mut session = Session::new(heap, network);
     respond_all(input, out, &mut session)

@@ -2,19 +2,16 @@
 use mathlib.Core.Path.{◌≡◌, refl}
 use mathlib.Core.List.{List, [], ◌∷◌, ◌++◌, map}
 use mathlib.Core.Bool.{Bool, true, false}
-use mathlib.Core.Logic.{◌⊎◌, inl, inr}
+use mathlib.Core.Logic.{inl, inr}
 use Prim.Native.Nat.{ℕ}
 use native.Mathlib.Omega.{arith}
 use lib.Dec.{lit<}
 use Rattle.definitions.specs.declared.Link.{Link}
-use Rattle.definitions.specs.Networks.{Net}
 use Rattle.definitions.specs.Example.{by_delay, scale, Case, AllCases, example, table}
 use Rattle.definitions.proofs.Tables.{table_right}
-use Rattle.histories.specs.declared.call.Event.{Event}
 use Rattle.histories.specs.declared.call.Call.{Call}
-use Rattle.histories.specs.declared.call.Call.TheVariants.{Withdraw, Plan}
 use Rattle.histories.specs.Questions.{WithdrawCall}
-use Rattle.histories.specs.Histories.{Latest, newest, before, Names, Withdrawn, Standing, Ran}
+use Rattle.histories.specs.Histories.{Latest, newest, before, Withdrawn, Ran}
 use Rattle.example_table.specs.Table.{Line, claimed, withdraw_refused, refused, LineHolds, AllLines, withdrawn_and_planned, lines}
 
 -- Of no calls none is the latest.

@@ -11,7 +11,7 @@ use Rattle.definitions.specs.Routes.{Valuation}
 use Rattle.definitions.specs.Searches.{given, Running}
 use Rattle.definitions.proofs.Fixpoint.{Lawful, via_one}
 use Rattle.definitions.proofs.Layers.{same_link, place_past}
-use Rattle.definitions.proofs.Settling.{fewer_due, offers, done_fits, not_both}
+use Rattle.definitions.proofs.Settling.{fewer_due, offers, done_fits}
 use Rattle.heap.proofs.Held.{push_keeps, push_holds, push_only}
 use Rattle.frontier.specs.declared.entries.Candidate.{Candidate}
 use Rattle.definitions.proofs.Lawfuls.{Value}

@@ -1,12 +1,12 @@
 -- A reading call is accepted just where its questions after the list of calls ask it.
-use Rattle.std.proofs.Common.{◌≡◌, ℕ, suc, ◌+◌, ◌<◌, ◌≤◌, Bool, true, false, ◌⊎◌, ◌↔◌, List, [], ◌∷◌, length, is_ok, Some, Ok, Err, Result, sym, refl, ap, ◌∙◌, subst, inl, inr, arith}
+use Rattle.std.proofs.Common.{◌≡◌, ℕ, ◌+◌, ◌<◌, ◌≤◌, Bool, true, ◌↔◌, List, [], ◌∷◌, length, is_ok, Ok, Err, Result, sym, ap, ◌∙◌, subst, inl, inr, arith}
 use Rattle.definitions.specs.declared.Link.{Link}
 use Rattle.definitions.specs.declared.Failure.{Failure}
 use Rattle.definitions.specs.declared.Failure.TheVariants.{Nothing, OneLink, OneGroup}
-use Rattle.definitions.specs.Networks.{Net, Holds, Limits, without, risks, at_risk, failed}
+use Rattle.definitions.specs.Networks.{Net, Holds, Limits, risks, at_risk, failed}
 use Rattle.definitions.specs.Measures.{Scale, Laws}
 use Rattle.definitions.specs.Routes.{RouteValue, Next, Held}
-use Rattle.definitions.specs.Plans.{plain, worst, Guarantee, Backup, Traced, arrived, onward, turned}
+use Rattle.definitions.specs.Plans.{plain, worst, Backup, Traced, arrived, onward, turned}
 use Rattle.definitions.proofs.Layers.{without_limits, same_link}
 use Rattle.definitions.proofs.Following.{held_one, next_one, next_away}
 use Rattle.definitions.proofs.Short.{held_short}
@@ -14,7 +14,7 @@ use Rattle.definitions.proofs.Tracing.{backup_one, traced_one}
 use Rattle.histories.specs.declared.fault.PlannerFault.{PlannerFault}
 use Rattle.histories.specs.declared.call.Event.{Event}
 use Rattle.histories.specs.declared.call.Call.TheVariants as call
-use Rattle.histories.specs.Questions.{Asks, Finds, Moves, Fails, Fits}
+use Rattle.histories.specs.Questions.{Moves, Fails, Fits}
 use Rattle.histories.specs.State.{State, marked, in_service, Stands, Right}
 use Rattle.routes.specs.Walks.{written}
 use Rattle.histories.specs.Answers.{GuaranteeAnswer, NextAnswer, RouteAnswer, BackupAnswer, TraceAnswer}

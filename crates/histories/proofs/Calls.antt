@@ -1,20 +1,19 @@
 -- What the reading calls answer, from what their parts answered.
-use Rattle.std.proofs.Common.{◌≡◌, ℕ, zero, suc, ◌+◌, ◌<◌, ◌≤◌, Bool, true, false, cond, ltb, ◌⊎◌, List, [], ◌∷◌, ◌++◌, length, take, drop, Some, None, Ok, Err, Option, Result, sym, refl, ap, ◌∙◌, subst, ap₂, inl, inr, append_assoc, append-nil, zero-add, arith, length-append, length-drop, length-take, take_at, drop_at, ltb-true}
+use Rattle.std.proofs.Common.{◌≡◌, ℕ, ◌+◌, ◌<◌, ◌≤◌, Bool, true, false, cond, ltb, ◌⊎◌, List, [], ◌∷◌, ◌++◌, length, take, drop, Some, None, Ok, Err, Option, Result, sym, refl, ap, ◌∙◌, subst, ap₂, inl, inr, append_assoc, append-nil, zero-add, arith, length-append, length-take, take_at, drop_at, ltb-true}
 use Rattle.definitions.specs.declared.Link.{Link}
 use Rattle.definitions.specs.declared.Failure.{Failure}
 use Rattle.definitions.specs.declared.Failure.TheVariants.{Nothing, OneLink, OneGroup}
-use Rattle.definitions.specs.Networks.{Net, Holds, Limits, failed}
+use Rattle.definitions.specs.Networks.{Limits, failed}
 use Rattle.definitions.specs.Measures.{Scale, Laws}
-use Rattle.definitions.specs.Routes.{Valuation, Best, Next, Held, RouteValue}
-use Rattle.definitions.specs.Plans.{plain, worst, Guarantee, Backup, Traced, arrived, onward, turned}
+use Rattle.definitions.specs.Routes.{Next, Held, RouteValue}
+use Rattle.definitions.specs.Plans.{plain, worst, Guarantee, Backup, Traced, arrived, turned}
 use Rattle.definitions.proofs.Lawfuls.{Value}
 use Rattle.histories.specs.declared.fault.PlannerFault.{PlannerFault}
-use Rattle.histories.specs.declared.fault.PlannerFault.TheVariants.{NoPlan, NoNode, NoGuarantee, AtDestination, NoRoom}
-use Rattle.routes.specs.declared.record.NodeRecord.{NodeRecord}
-use Rattle.routes.specs.Records.{Recorded, Leads, value_of, steps_of, next_of}
+use Rattle.histories.specs.declared.fault.PlannerFault.TheVariants.{NoPlan, NoNode, AtDestination, NoRoom}
+use Rattle.routes.specs.Records.{Leads, value_of, steps_of, next_of}
 use Rattle.routes.specs.Walks.{or_zero, plain_value, Spared, Blocked, Turned, RouteWritten, written}
-use Rattle.histories.specs.Questions.{Asks, Reads, Moves, Fits, Fails}
-use Rattle.histories.specs.State.{State, marked, in_service, Stands, Right}
+use Rattle.histories.specs.Questions.{Asks, Moves, Fits, Fails}
+use Rattle.histories.specs.State.{State, in_service, Right}
 use Rattle.histories.specs.Answers.{GuaranteeAnswer, NextAnswer, RouteAnswer, BackupAnswer, TraceAnswer}
 use Rattle.histories.specs.Parts.{read_answer, read_from, read_value, DetourAnswer, FailureAnswer}
 use Rattle.histories.proofs.Plain.{ok_err, ok_one, err_one}

@@ -1,8 +1,7 @@
 -- What one call adds to a list of calls.
-use Rattle.std.proofs.Common.{◌≡◌, ℕ, zero, suc, ◌+◌, ◌<◌, ◌≤◌, Bool, true, false, cond, ◌≢◌, ◌⊎◌, ◌↔◌, List, [], ◌∷◌, ◌++◌, map, reverse, length, get_or, take, set, is_ok, Some, None, Ok, Err, Option, Result, sym, refl, ap, ◌∙◌, subst, inl, inr, ⊎_elim, add-one, arith, get_or-set_other, get_or-set_same, take-suc-set}
+use Rattle.std.proofs.Common.{◌≡◌, ℕ, ◌<◌, Bool, true, false, ◌≢◌, ◌↔◌, List, [], ◌∷◌, length, set, is_ok, Some, None, Option, Result, sym, refl, ap, ◌∙◌, subst, inl, inr, arith, get_or-set_other, get_or-set_same}
 use mathlib.Core.Path.{fun_ext}
 use native.Mathlib.Decide.{ℕ_discrete}
-use Rattle.std.proofs.lemmas.List.{reverse-append}
 use Rattle.definitions.specs.declared.Link.{Link}
 use Rattle.definitions.specs.Networks.{Net, Holds, without}
 use Rattle.definitions.specs.Measures.{Scale}
@@ -11,10 +10,10 @@ use Rattle.histories.specs.declared.fault.PlannerFault.{PlannerFault}
 use Rattle.histories.specs.declared.call.Event.{Event}
 use Rattle.histories.specs.declared.call.Call.{Call}
 use Rattle.histories.specs.declared.call.Call.TheVariants as call
-use Rattle.histories.specs.Questions.{Finds, Asks, Reads}
+use Rattle.histories.specs.Questions.{Reads}
 use Rattle.histories.specs.State.{State, marked, in_service, Stands, remarked, Opened, PlanRight, Right}
 use Rattle.histories.specs.Answers.{WithdrawAnswer, RestoreAnswer, PlanAnswer, Replanned}
-use Rattle.histories.specs.Histories.{Latest, newest, before, Names, Changes, Withdrawn, Standing, Marks, After, Accepted, Ran, Follows, AfterAnyCalls}
+use Rattle.histories.specs.Histories.{Latest, newest, before, Names, Changes, Withdrawn, Marks, After, Accepted, Follows, AfterAnyCalls}
 use Rattle.histories.proofs.Plain.{apart}
 use Rattle.routes.proofs.Leading.{some_one}
 

@@ -1,26 +1,25 @@
 -- From the answers of guarantee, route and trace to the promise.
-use Rattle.std.proofs.Common.{◌≡◌, ℕ, ◌<◌, ◌≤◌, Bool, true, false, ◌⊎◌, ◌↔◌, List, [], ◌∷◌, length, is_ok, Some, None, Ok, Err, Option, Result, sym, refl, ap, ◌∙◌, subst, inl, inr, arith}
+use Rattle.std.proofs.Common.{◌≡◌, ℕ, ◌<◌, ◌≤◌, true, ◌⊎◌, List, length, is_ok, Some, Ok, Err, Result, sym, ap, ◌∙◌, subst, inl, inr}
 use mathlib.Core.Logic.{∥∥₁_elim}
 use mathlib.Core.HLevel.{⊥_prop}
-use Rattle.definitions.specs.declared.Link.{Link}
 use Rattle.definitions.specs.declared.Failure.{Failure}
 use Rattle.definitions.specs.declared.Failure.TheVariants.{Nothing, OneLink, OneGroup}
-use Rattle.definitions.specs.Networks.{Net, Holds, Limits, without, failed}
+use Rattle.definitions.specs.Networks.{Net, Limits, failed}
 use Rattle.definitions.specs.Measures.{Scale, Laws}
-use Rattle.definitions.specs.Routes.{Route, RouteValue, Held, Best}
+use Rattle.definitions.specs.Routes.{RouteValue, Held}
 use Rattle.definitions.specs.Plans.{plain, worst, ProtectedRoute, Guarantee, Traced}
 use Rattle.definitions.proofs.Fixpoint.{label_best, label_bound, best_label, best_one}
 use Rattle.definitions.proofs.Layers.{without_limits, below}
 use Rattle.definitions.proofs.Lawfuls.{Value, worst_lawful}
-use Rattle.definitions.proofs.Following.{value_steps, held_from, held_one, held_value}
-use Rattle.definitions.proofs.Tracing.{traced_route, traced_value, traced_tight, traced_one, Near}
+use Rattle.definitions.proofs.Following.{value_steps, held_from, held_value}
+use Rattle.definitions.proofs.Tracing.{traced_route, traced_value, traced_tight, Near}
 use Rattle.histories.specs.declared.fault.PlannerFault.{PlannerFault}
 use Rattle.histories.specs.declared.fault.PlannerFault.TheVariants.{NoGuarantee}
 use Rattle.histories.specs.Faults.{planner_code}
 use Rattle.routes.specs.Records.{Recorded, value_of, steps_of, next_of}
 use Rattle.routes.specs.Walks.{written}
 use Rattle.routes.proofs.Leading.{some_one}
-use Rattle.histories.specs.Questions.{Asks, Finds, Reads, Fails, Fits}
+use Rattle.histories.specs.Questions.{Finds, Reads, Fails, Fits}
 use Rattle.histories.specs.State.{State, marked, in_service, Stands, PlanRight, Right}
 use Rattle.histories.specs.Answers.{GuaranteeAnswer, RouteAnswer, TraceAnswer}
 use Rattle.histories.specs.Promise.{BestHeld, RefusedRightly, FailureReaches, SafeTrace, TraceAccepted, RouteHeld, GuaranteePromise, RoutePromise, TracePromise}

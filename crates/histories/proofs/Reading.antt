@@ -1,19 +1,15 @@
 -- The questions of the reading calls, answered from the records.
-use Rattle.std.proofs.Common.{◌≡◌, ℕ, zero, suc, pred, ◌<◌, ◌≤◌, Bool, true, false, cond, ltb, ◌⊎◌, List, [], ◌∷◌, length, Some, None, Ok, Err, Option, Result, sym, refl, ap, ◌∙◌, subst, inl, inr, arith, ltb-false, ltb-true}
+use Rattle.std.proofs.Common.{◌≡◌, ℕ, ◌<◌, Bool, true, false, cond, ltb, Some, None, Ok, Err, Option, Result, sym, refl, ap, ◌∙◌, subst, inl, inr, arith, ltb-false, ltb-true}
 use mathlib.Core.Logic.{∥∥₁_elim}
 use mathlib.Core.HLevel.{⊥_prop}
-use native.Mathlib.Decide.{ℕ_discrete}
-use Rattle.definitions.specs.declared.Link.{Link}
-use Rattle.definitions.specs.Networks.{Net, Holds, Limits}
+use Rattle.definitions.specs.Networks.{Limits}
 use Rattle.definitions.specs.Measures.{Scale, Laws}
-use Rattle.definitions.specs.Routes.{Valuation, Best, Next, Held}
 use Rattle.definitions.specs.Plans.{worst, Guarantee}
 use Rattle.definitions.proofs.Fixpoint.{Lawful, label_best, label_none}
 use Rattle.definitions.proofs.Layers.{without_limits}
 use Rattle.definitions.proofs.Lawfuls.{Value, worst_lawful}
 use Rattle.histories.specs.declared.fault.PlannerFault.{PlannerFault}
 use Rattle.histories.specs.declared.fault.PlannerFault.TheVariants.{NoPlan, NoNode, NoGuarantee}
-use Rattle.routes.specs.declared.record.NodeRecord.{NodeRecord}
 use Rattle.routes.specs.Records.{Recorded, value_of}
 use Rattle.histories.specs.Questions.{Reads}
 use Rattle.histories.specs.State.{State, marked, in_service, Stands, PlanRight, Right}

@@ -1,7 +1,6 @@
 -- What each call answers, and what it leaves in the planner and in the buffer.
-use Rattle.std.specs.Prelude.{◌≡◌, ℕ, Bool, true, false, List, length, Some, Ok, Err, Result}
+use Rattle.std.specs.Prelude.{◌≡◌, ℕ, true, false, List, length, Some, Ok, Err, Result}
 use Rattle.definitions.specs.declared.Failure.{Failure}
-use Rattle.definitions.specs.Networks.{Net}
 use Rattle.definitions.specs.Measures.{Scale}
 use Rattle.definitions.specs.Plans.{Planned}
 use Rattle.histories.specs.declared.fault.PlannerFault.{PlannerFault}

@@ -1,5 +1,4 @@
 -- Layer, number and place of each refusal of a planner.
-use Rattle.std.specs.Prelude.{ℕ}
 use Rattle.definitions.specs.declared.FaultCode.{FaultCode}
 use Rattle.histories.specs.declared.fault.PlannerFault.{PlannerFault}
 use Rattle.histories.specs.declared.fault.PlannerFault.TheVariants.{NoLink, Withdrawn, InService, NoDestination, NoPlan, NoNode, NoGuarantee, AtDestination, NoRoom, NoGroup}

@@ -1,7 +1,6 @@
 -- Lists of calls on a planner just opened, the newest first, and what they leave.
-use Rattle.std.specs.Prelude.{◌≡◌, ℕ, ◌<◌, Bool, true, false, ◌↔◌, List, [], ◌∷◌, Some, ◌≢◌}
-use Rattle.definitions.specs.declared.Link.{Link}
-use Rattle.definitions.specs.Networks.{Net, Holds, without}
+use Rattle.std.specs.Prelude.{◌≡◌, ℕ, Bool, true, ◌↔◌, List, [], ◌∷◌, Some, ◌≢◌}
+use Rattle.definitions.specs.Networks.{Net, without}
 use Rattle.definitions.specs.Measures.{Scale}
 use Rattle.histories.specs.declared.call.Event.{Event}
 use Rattle.histories.specs.declared.call.Call.{Call}

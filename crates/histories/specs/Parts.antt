@@ -2,7 +2,7 @@
 use Rattle.std.specs.Prelude.{◌≡◌, ℕ, ◌+◌, ◌<◌, ◌≤◌, cond, List, ◌++◌, length, take, drop, Some, None, Ok, Err, Option, Result, ◌≢◌, nat_lt}
 use Rattle.definitions.specs.declared.Link.{Link}
 use Rattle.definitions.specs.declared.Failure.{Failure}
-use Rattle.definitions.specs.Networks.{Net, Holds}
+use Rattle.definitions.specs.Networks.{Net}
 use Rattle.definitions.specs.Measures.{Scale}
 use Rattle.definitions.specs.Routes.{Next}
 use Rattle.definitions.specs.Plans.{worst, Backup}

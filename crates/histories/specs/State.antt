@@ -1,5 +1,5 @@
 -- What a planner holds.
-use Rattle.std.specs.Prelude.{◌≡◌, ℕ, ◌<◌, Bool, true, false, List, Some, None, Option, slice_index_or, slice_set}
+use Rattle.std.specs.Prelude.{◌≡◌, ℕ, ◌<◌, Bool, false, List, Some, None, Option, slice_index_or, slice_set}
 use Rattle.definitions.specs.Networks.{Net, without}
 use Rattle.definitions.specs.Measures.{Scale}
 use Rattle.definitions.specs.Plans.{worst}

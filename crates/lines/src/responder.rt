@@ -16,6 +16,12 @@ impl From<fmt::Error> for NoMemory {
     }
 }
 
+impl From<AllocError> for NoMemory {
+    fn from(_error: AllocError) -> NoMemory {
+        NoMemory
+    }
+}
+
 impl From<NoMemory> for io::Error {
     fn from(_refusal: NoMemory) -> io::Error {
         io::Error::from(AllocError)

@@ -1,15 +1,14 @@
 -- The first fault of a row: one step of the search, and what it means that there is none.
-use Rattle.std.proofs.Common.{◌≡◌, ℕ, zero, suc, ◌+◌, ◌-◌, ◌*◌, ◌^◌, ◌<◌, ◌≤◌, true, false, cond, eqb, ltb, leb, ◌⊎◌, List, length, get_or, is_err, Some, None, Ok, Err, Option, Result, sym, refl, ap, ◌∙◌, subst, inl, inr, arith}
+use Rattle.std.proofs.Common.{◌≡◌, ℕ, zero, suc, ◌+◌, ◌-◌, ◌*◌, ◌^◌, ◌<◌, ◌≤◌, true, false, List, length, get_or, is_err, Some, None, Option, Result, sym, refl, ap, ◌∙◌, subst, inl, inr, arith}
 use Rattle.maps.specs.declared.fault.MapFault.{MapFault}
 use Rattle.std.proofs.lemmas.Bool.Decides.{nat_tests}
 use Rattle.std.proofs.lemmas.Bool.{cases_eq, cases_lt}
 use Rattle.std.proofs.lemmas.List.FromFn.{length-map-range_with_len, get_or-map-range_with_len}
 use Rattle.std.proofs.lemmas.List.{get_or_past}
-use Rattle.definitions.specs.declared.Link.{Link}
 use Rattle.networks.specs.declared.draft.DraftFault.{DraftFault}
-use Rattle.definitions.specs.Networks.{AllSound, Sound, place}
-use Rattle.networks.specs.Drafts.{refusal, answered}
-use Rattle.maps.specs.Maps.{be16, be32, node_count, link_count, link_at, mapped}
+use Rattle.definitions.specs.Networks.{AllSound, Sound}
+use Rattle.networks.specs.Drafts.{answered}
+use Rattle.maps.specs.Maps.{be32, node_count, link_count, link_at, mapped}
 use Rattle.maps.specs.Checks.{or_else, first, as_map_fault, link_fault, size_fault, map_fault}
 use Rattle.networks.proofs.Tables.{sound_unless}
 

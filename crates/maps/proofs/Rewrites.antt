@@ -1,5 +1,5 @@
 -- A map read and written again is the same bytes.
-use Rattle.std.proofs.Common.{◌≡◌, ℕ, zero, suc, ◌+◌, ◌*◌, ◌/◌, ◌%◌, ◌<◌, ◌≤◌, Bool, true, false, cond, eqb, ltb, leb, List, [], ◌∷◌, ◌++◌, map, length, get_or, take, drop, Some, None, Ok, Err, Option, Result, sym, refl, ap, ◌∙◌, subst, mul-zero, mul-suc, arith, take-append-drop, take-add}
+use Rattle.std.proofs.Common.{◌≡◌, ℕ, zero, suc, ◌+◌, ◌*◌, ◌/◌, ◌%◌, ◌<◌, ◌≤◌, Bool, true, false, cond, eqb, ltb, List, [], ◌∷◌, ◌++◌, map, length, get_or, take, drop, Some, None, Ok, Err, Option, Result, sym, refl, ap, ◌∙◌, mul-zero, mul-suc, arith, take-append-drop, take-add}
 use native.Mathlib.Nat.{div-div-eq-div-mul}
 use Rattle.std.specs.List.{range_with_len, flat_map}
 use Rattle.std.proofs.lemmas.Bool.Decides.{nat_tests}
@@ -10,8 +10,8 @@ use Rattle.maps.specs.declared.fault.MapFault.{MapFault}
 use Rattle.maps.specs.declared.fault.MapFault.TheVariants.{Nodes, SmallBuffer}
 use Rattle.definitions.specs.Networks.{Net}
 use Rattle.maps.specs.Maps.{be16, be32, node_count, link_count, link_at, mapped}
-use Rattle.maps.specs.Checks.{or_else, first, link_fault, size_fault, map_fault, unless, opened}
-use Rattle.maps.specs.Writes.{bytes16, bytes32, ends, attributes, ends_in, attributes_in, sizes, map_bytes, map_length, first_empty, unless_empty, writable, written, rewrite_fault, Rewritten}
+use Rattle.maps.specs.Checks.{or_else, size_fault, map_fault, unless, opened}
+use Rattle.maps.specs.Writes.{bytes16, bytes32, ends_in, attributes_in, sizes, map_bytes, map_length, first_empty, unless_empty, writable, written, Rewritten}
 use Rattle.maps.proofs.Firsts.{sizes_right, no_size_fault}
 
 -- Four bytes, one by one.

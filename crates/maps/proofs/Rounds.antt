@@ -1,5 +1,5 @@
 -- A map that was written reads back: it has no fault, and means the network.
-use Rattle.std.proofs.Common.{◌≡◌, ℕ, zero, suc, ◌+◌, ◌*◌, ◌/◌, ◌%◌, ◌^◌, ◌<◌, ◌≤◌, Bool, true, false, cond, eqb, ltb, leb, List, [], ◌∷◌, ◌++◌, map, length, get_or, take, drop, Some, None, Ok, Err, Option, Result, sym, refl, ap, ◌∙◌, subst, arith}
+use Rattle.std.proofs.Common.{◌≡◌, ℕ, zero, suc, ◌+◌, ◌*◌, ◌/◌, ◌%◌, ◌^◌, ◌<◌, ◌≤◌, Bool, true, false, cond, eqb, ltb, List, ◌++◌, map, length, get_or, take, drop, Some, None, Ok, Err, Option, sym, refl, ap, ◌∙◌, arith}
 use native.Mathlib.Nat.{div-div-eq-div-mul, div-add-mod}
 use Rattle.std.specs.List.{range_with_len, flat_map}
 use Rattle.std.proofs.lemmas.Bool.Decides.{nat_tests}
@@ -13,7 +13,7 @@ use Rattle.definitions.specs.Networks.{Net, Limits, Sound, place}
 use Rattle.networks.specs.Drafts.{refusal}
 use Rattle.maps.specs.Maps.{be16, be32, node_count, link_count, link_at, mapped}
 use Rattle.maps.specs.Checks.{or_else, first, as_map_fault, link_fault, size_fault, map_fault, unless, opened}
-use Rattle.maps.specs.Writes.{bytes16, bytes32, ends, attributes, link_of, ends_in, attributes_in, sizes, map_bytes, map_length, first_empty, unless_empty, writable, ReadsBack}
+use Rattle.maps.specs.Writes.{link_of, ends_in, attributes_in, map_bytes, map_length, first_empty, unless_empty, writable, ReadsBack}
 use Rattle.maps.proofs.Empties.{full_at}
 use Rattle.maps.proofs.Pastes.{length_entries, drop_entries}
 

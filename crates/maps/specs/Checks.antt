@@ -1,5 +1,5 @@
 -- The questions put to the bytes of a map, and the first "no".
-use Rattle.std.specs.Prelude.{◌≡◌, ℕ, zero, suc, ◌+◌, ◌*◌, min, Bool, true, false, cond, ◌||◌, List, [], length, Some, None, Option, ◌==◌, nat_lt}
+use Rattle.std.specs.Prelude.{ℕ, zero, suc, ◌+◌, ◌*◌, min, cond, ◌||◌, List, [], length, Some, None, Option, ◌==◌, nat_lt}
 use Rattle.networks.specs.declared.draft.DraftFault.{DraftFault}
 use Rattle.maps.specs.declared.fault.MapFault.{MapFault}
 use Rattle.maps.specs.declared.fault.MapFault.TheVariants.{TooShort, Nodes, Links, WrongLength, BadLink}

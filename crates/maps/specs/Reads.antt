@@ -1,5 +1,5 @@
 -- A map whose bytes are well formed is a network within the limits.
-use Rattle.std.specs.Prelude.{◌≡◌, ℕ, ◌≤◌, List}
+use Rattle.std.specs.Prelude.{ℕ, ◌≤◌, List}
 use Rattle.std.proofs.lemmas.List.FromFn.{length-map-range_with_len}
 use Rattle.definitions.specs.Networks.{Limits, AllSound}
 use Rattle.maps.specs.Maps.{node_count, link_count, mapped}

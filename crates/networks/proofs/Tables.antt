@@ -1,9 +1,9 @@
 -- Lists of links as networks: one more link, and what the questions before it ensure.
-use Rattle.std.proofs.Common.{◌≡◌, ℕ, zero, suc, ◌+◌, ◌^◌, ◌<◌, ◌≤◌, Bool, true, false, cond, eqb, leb, List, [], ◌∷◌, ◌++◌, map, length, get_or, Some, None, Ok, Err, Option, sym, refl, ap, ◌∙◌, arith}
+use Rattle.std.proofs.Common.{◌≡◌, ℕ, zero, suc, ◌^◌, ◌<◌, Bool, true, false, cond, List, [], ◌∷◌, ◌++◌, map, length, Some, None, Ok, Err, Option, sym, refl, ap, ◌∙◌, arith}
 use Rattle.std.proofs.lemmas.Bool.Decides.{nat_tests}
-use Rattle.std.proofs.lemmas.List.{length-map, map_push, get_or-map, get_or_past}
+use Rattle.std.proofs.lemmas.List.{length-map, map_push}
 use Rattle.definitions.specs.declared.Link.{Link}
-use Rattle.definitions.specs.Networks.{Net, Limits, AllSound, Sound, place, listed}
+use Rattle.definitions.specs.Networks.{AllSound, Sound, place, listed}
 use Rattle.networks.specs.declared.draft.DraftFault.{DraftFault}
 use Rattle.networks.specs.Drafts.{refusal, answered, or_memory, Added}
 

@@ -1,5 +1,4 @@
 -- Layer, number and place of each refusal of a draft.
-use Rattle.std.specs.Prelude.{ℕ}
 use Rattle.definitions.specs.declared.FaultCode.{FaultCode}
 use Rattle.networks.specs.declared.draft.DraftFault.{DraftFault}
 use Rattle.networks.specs.declared.draft.DraftFault.TheVariants.{NodeCount, Full, TailBeyond, HeadBeyond, SameEnds, NoMemory}

@@ -1,5 +1,5 @@
 -- What the tables of a search say, in the records of the nodes.
-use Rattle.std.proofs.Common.{◌≡◌, ℕ, ◌+◌, ◌<◌, ◌≤◌, List, length, get_or, set, Some, None, Option, sym, refl, ap, ◌∙◌, subst, subst₂, inl, inr, arith}
+use Rattle.std.proofs.Common.{◌≡◌, ℕ, ◌+◌, ◌<◌, ◌≤◌, List, length, get_or, set, None, Option, sym, ap, ◌∙◌, subst, subst₂, inl, inr, arith}
 use mathlib.Core.Path.{fun_ext}
 use native.Mathlib.Decide.{ℕ_discrete}
 use Rattle.std.proofs.lemmas.List.{get_or-set_same, get_or-set_other, get_or_past}
@@ -9,7 +9,7 @@ use Rattle.definitions.specs.Routes.{Valuation}
 use Rattle.definitions.specs.Searches.{Labels, Nexts}
 use Rattle.definitions.proofs.Layers.{place_past}
 use Rattle.routes.specs.declared.record.NodeRecord.{NodeRecord}
-use Rattle.routes.specs.Records.{Recorded, Copied, value_of, steps_of, next_of, blank}
+use Rattle.routes.specs.Records.{Recorded, Copied, blank}
 
 module _ (values steps nexts : List (Option ℕ)) where
   -- what the tables say of the node u

@@ -1,16 +1,15 @@
 -- Walks along next links.
-use Rattle.std.proofs.Common.{◌≡◌, ℕ, zero, suc, ◌+◌, ◌-◌, ◌/◌, ◌%◌, ◌^◌, ◌<◌, ◌≤◌, Bool, true, false, cond, ◌⊎◌, List, [], ◌∷◌, ◌++◌, length, get_or, take, drop, set, is_some, Some, None, Option, sym, refl, ap, ◌∙◌, subst, ap₂, inl, inr, append_assoc, append-nil, arith, length-append, length-take}
+use Rattle.std.proofs.Common.{◌≡◌, ℕ, ◌+◌, ◌-◌, ◌<◌, ◌≤◌, true, false, List, [], ◌∷◌, ◌++◌, length, get_or, take, drop, set, is_some, Some, None, Option, sym, refl, ap, ◌∙◌, subst, append_assoc, append-nil, arith, length-append, length-take}
 use Rattle.std.proofs.lemmas.List.{take_more_set, drop_more}
 use Rattle.definitions.specs.declared.Link.{Link}
 use Rattle.definitions.specs.declared.Failure.{Failure}
-use Rattle.definitions.specs.declared.Failure.TheVariants.{Nothing, OneLink, OneGroup}
-use Rattle.definitions.specs.Networks.{Net, Holds, place, failed, in_group}
+use Rattle.definitions.specs.Networks.{Net, Holds, place, failed}
 use Rattle.definitions.specs.Measures.{Scale}
-use Rattle.definitions.specs.Routes.{Valuation, RouteValue, Next, Held}
-use Rattle.definitions.specs.Plans.{plain, worst, Traced, arrived, onward}
+use Rattle.definitions.specs.Routes.{Valuation, RouteValue, Held}
+use Rattle.definitions.specs.Plans.{plain, worst, Traced, onward}
 use Rattle.definitions.proofs.Layers.{same_link}
 use Rattle.routes.specs.Records.{Leads}
-use Rattle.routes.specs.Walks.{plain_value, extended, Spared, Blocked, Turned}
+use Rattle.routes.specs.Walks.{plain_value, extended, Spared}
 
 pub nothing_there : {A X : Type 0} (o : Option A) (x : A) → o ≡ Some x → o ≡ None → X
 nothing_there o x p q = let z : ◌≡◌ {A = ℕ} 0 1 = cc in absurd (omega arith)

@@ -1,5 +1,5 @@
 -- The answers after a list of calls are right.
-use Rattle.std.proofs.Common.{◌≡◌, ℕ, ◌<◌, Bool, List, sym, subst}
+use Rattle.std.proofs.Common.{ℕ, ◌<◌, Bool, List}
 use Rattle.definitions.specs.declared.Failure.{Failure}
 use Rattle.definitions.specs.Networks.{Net, Limits, without}
 use Rattle.definitions.specs.Measures.{Scale, Laws}

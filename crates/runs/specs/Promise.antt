@@ -1,11 +1,11 @@
 -- What is promised of guarantee, route and trace, asked after any list of calls.
-use Rattle.std.specs.Prelude.{◌≡◌, ℕ, ◌<◌, Bool, true, List, map, reverse, Ok, Err, Result}
+use Rattle.std.specs.Prelude.{◌≡◌, ℕ, ◌<◌, Bool, List, map, reverse, Ok, Err, Result}
 use Rattle.definitions.specs.declared.Failure.{Failure}
 use Rattle.definitions.specs.Networks.{Net, without}
 use Rattle.definitions.specs.Measures.{Scale}
 use Rattle.histories.specs.declared.call.Event.{Event}
 use Rattle.histories.specs.Histories.{Standing, Marks, Ran}
-use Rattle.histories.specs.Promise.{BestHeld, RouteHeld, RefusedRightly, FailureReaches, SafeTrace, TraceAccepted}
+use Rattle.histories.specs.Promise.{RouteHeld, RefusedRightly, FailureReaches, SafeTrace, TraceAccepted}
 use Rattle.runs.specs.declared.Answers.{Answers}
 
 -- The answers a of guarantee, route and trace for a node u, with f failed. The network n was opened, t is the destination of

@@ -1,6 +1,5 @@
 use Rattle.std.proofs.Common.{◌≡◌, ℕ, ◌≤◌, min, ◌↔◌, List, length, sym, refl, subst₂, arith, rules}
 use Rattle.planner.specs.Planners.{state, network_of}
-use Rattle.histories.specs.declared.call.Call.TheVariants as call
 use Rattle.histories.specs.Histories.{Follows}
 use Rattle.histories.proofs.Following.{route_follows, backup_follows, trace_follows}
 use Rattle.runs.proofs.perform.Goals as goal

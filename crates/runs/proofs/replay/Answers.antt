@@ -1,4 +1,4 @@
-use Rattle.std.proofs.Common.{◌≡◌, ◌<◌, false, [], reverse, length, get_or, take, sym, refl, ap, ◌∙◌, subst, arith, take_all}
+use Rattle.std.proofs.Common.{◌≡◌, ◌<◌, false, [], reverse, length, take, sym, refl, ap, ◌∙◌, subst, arith, take_all}
 use Rattle.planner.specs.Planners.{state, network_of}
 use Rattle.histories.specs.Histories.{After, Ran}
 use Rattle.histories.specs.declared.call.Call.TheVariants as call

@@ -1,4 +1,4 @@
-use Rattle.std.proofs.Common.{sym, ◌∙◌, arith, rules}
+use Rattle.std.proofs.Common.{arith, rules}
 use Rattle.maps.proofs.Empties.{empty_here, empty_next, empty_end}
 use Rattle.maps.proofs.writing.first_empty.Goals as goal
 

@@ -1,4 +1,4 @@
-use Rattle.std.proofs.Common.{◌≡◌, refl, ◌∙◌, arith}
+use Rattle.std.proofs.Common.{◌≡◌, refl, arith}
 use Rattle.std.proofs.lemmas.Slice.{put_mid-paste}
 use Rattle.maps.specs.Writes.{bytes16}
 use Rattle.maps.proofs.writing.put16.Goals as goal

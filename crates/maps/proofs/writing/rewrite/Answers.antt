@@ -1,4 +1,4 @@
-use Rattle.std.proofs.Common.{◌≡◌, None, sym, ap, ◌∙◌, arith, rules}
+use Rattle.std.proofs.Common.{◌≡◌, None, arith, rules}
 use Rattle.maps.specs.Checks.{map_fault}
 use Rattle.maps.proofs.Rewrites.{rewritten_from}
 use Rattle.maps.proofs.writing.rewrite.Goals as goal

@@ -1,4 +1,4 @@
-use Rattle.std.proofs.Common.{◌≡◌, length, drop, Ok, sym, refl, ◌∙◌}
+use Rattle.std.proofs.Common.{◌≡◌, length, drop, Ok, sym, ◌∙◌}
 use Rattle.maps.specs.Writes.{writable}
 use Rattle.maps.proofs.Pastes.{all_written}
 use Rattle.maps.proofs.Rounds.{writable_ok, reads_back}

@@ -1,4 +1,4 @@
-use Rattle.std.proofs.Common.{◌≡◌, ◌+◌, ◌*◌, [], length, sym, refl, ap, ◌∙◌, arith}
+use Rattle.std.proofs.Common.{◌+◌, ◌*◌, [], length, refl, ◌∙◌, arith}
 use Rattle.std.proofs.lemmas.List.Edits.{paste_none}
 use Rattle.maps.specs.Writes.{attributes_in}
 use Rattle.maps.proofs.Empties.{never_empty}

@@ -1,4 +1,4 @@
-use Rattle.std.proofs.Common.{◌≡◌, sym, refl, ap, ◌∙◌, arith}
+use Rattle.std.proofs.Common.{refl, ◌∙◌, arith}
 use Rattle.maps.specs.Writes.{ends_in}
 use Rattle.maps.proofs.Empties.{never_empty}
 use Rattle.maps.proofs.Pastes.{paste_entry, paste_entries}

@@ -1,4 +1,4 @@
-use Rattle.std.proofs.Common.{◌≡◌, ◌+◌, ◌*◌, take}
+use Rattle.std.proofs.Common.{◌≡◌, ◌*◌, take}
 use lib.Seq.{paste}
 use Rattle.std.specs.List.{flat_map}
 use Rattle.maps.specs.Writes.{ends_in}

@@ -1,6 +1,5 @@
-use Rattle.std.proofs.Common.{◌≡◌, ◌<◌, length, sym, refl, ◌∙◌, subst, inl, inr, arith}
+use Rattle.std.proofs.Common.{◌≡◌, ◌<◌, length, refl, inl, arith}
 use Rattle.definitions.specs.Plans.{worst}
-use Rattle.routes.specs.Records.{Recorded}
 use Rattle.routes.proofs.Copying.{recorded}
 use Rattle.routes.proofs.searches.worst_records.Goals as goal
 

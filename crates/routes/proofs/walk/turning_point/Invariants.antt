@@ -1,4 +1,4 @@
-use Rattle.std.proofs.Common.{◌≡◌, ℕ, ◌+◌, ◌-◌, ◌<◌, ◌≤◌, List, ◌++◌, length}
+use Rattle.std.proofs.Common.{◌≡◌, ℕ, ◌-◌, ◌<◌, ◌≤◌, List, ◌++◌, length}
 use Rattle.routes.specs.Records.{Leads, next_of}
 use Rattle.routes.specs.Walks.{Spared}
 use Rattle.routes.proofs.walk.turning_point.Given as goal

@@ -1,4 +1,4 @@
-use Rattle.std.proofs.Common.{◌≡◌, ℕ, ◌+◌, ◌<◌, List, ◌++◌, length, take, set, None, sym, refl, ap, ◌∙◌, subst, arith, take_all, rules}
+use Rattle.std.proofs.Common.{◌≡◌, ℕ, ◌+◌, List, ◌++◌, take, set, None, sym, refl, ap, ◌∙◌, subst, arith, take_all}
 use Rattle.definitions.specs.Networks.{Holds, place}
 use Rattle.routes.specs.Records.{Leads, next_of}
 use Rattle.routes.proofs.Walking.{nothing_there, more_to_write, wrote_more, wrote_all}

@@ -1,6 +1,6 @@
 use Rattle.std.proofs.Common.{◌≡◌, ◌<◌, ◌≤◌, ◌++◌, length, take, drop, Ok, Err, sym, refl, ap, ◌∙◌, inl, inr, arith, length-take}
 use Rattle.routes.specs.Records.{steps_of}
-use Rattle.routes.specs.Walks.{or_zero, Fronted}
+use Rattle.routes.specs.Walks.{or_zero}
 use Rattle.routes.proofs.walk.write_route.Goals as goal
 
 pub returns-then-places-count : goal.returns-then-places-count

@@ -1,5 +1,5 @@
-use Rattle.std.proofs.Common.{◌≡◌, true, false, sym, ap, ◌∙◌, ap₂}
-use Rattle.definitions.specs.Networks.{place, share_group}
+use Rattle.std.proofs.Common.{sym, ◌∙◌, ap₂}
+use Rattle.definitions.specs.Networks.{share_group}
 use Rattle.definitions.proofs.Layers.{risk_same, risk_shared, risk_apart}
 use Rattle.networks.proofs.layers.AtRiskNetwork.place.Goals as goal
 

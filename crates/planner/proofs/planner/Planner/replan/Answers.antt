@@ -1,4 +1,4 @@
-use Rattle.std.proofs.Common.{◌≡◌, ℕ, ◌-◌, ◌<◌, length, take, vec_items, sym, refl, ap, ◌∙◌, subst, ap₂, subst₂, arith, take_at}
+use Rattle.std.proofs.Common.{◌≡◌, take, vec_items, sym, refl, ap, ◌∙◌, subst, ap₂, arith, take_at}
 use Rattle.std.specs.Vec.{with_items}
 use Rattle.definitions.specs.Networks.{withdrawn}
 use Rattle.definitions.specs.Plans.{worst, Planned}

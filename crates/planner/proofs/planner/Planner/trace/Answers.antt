@@ -1,4 +1,4 @@
-use Rattle.std.proofs.Common.{◌≡◌, ℕ, ◌+◌, ◌-◌, ◌<◌, ◌≤◌, List, ◌++◌, length, take, drop, Ok, Err, vec_items, sym, refl, ap, ◌∙◌, subst, subst₂, arith, length-append, length-drop, length-take, rules}
+use Rattle.std.proofs.Common.{◌≡◌, ℕ, ◌≤◌, List, ◌++◌, length, take, drop, Ok, Err, vec_items, sym, refl, ap, ◌∙◌, subst, subst₂, arith, length-append, length-drop, length-take}
 use Rattle.std.proofs.lemmas.Result.{err_from_is_err_and}
 use Rattle.definitions.specs.Networks.{withdrawn}
 use Rattle.networks.specs.declared.network.Network.{Ghosts as NetworkGhosts}
