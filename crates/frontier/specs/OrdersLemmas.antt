@@ -1,10 +1,11 @@
--- Entries by value, then by number, are in a total order under a lawful measure.
-use Rattle.std.specs.Prelude.{◌≡◌, ℕ, ◌^◌, ◌<◌, true, ◌⊎◌}
+-- Entries by value, then by number, are in a total order under a lawful measure, and so are links by steps, then by number.
+use Rattle.std.specs.Prelude.{◌≡◌, ℕ, ◌^◌, ◌<◌, ◌≤◌, true, ◌⊎◌}
 use Rattle.std.proofs.Common.{sym, subst, inl, inr, ⊎_elim, arith}
 use Rattle.std.proofs.lemmas.Bool.{cases_eq, cases_lt}
 use Rattle.definitions.specs.Measures.{Scale, Laws}
 use Rattle.frontier.specs.declared.entries.Candidate.{Candidate}
-use Rattle.frontier.specs.Orders.{ValueFits, ValueBefore}
+use Rattle.frontier.specs.declared.entries.Hop.{Hop}
+use Rattle.frontier.specs.Orders.{ValueFits, ValueBefore, StepsBefore}
 
 module _ (m : Scale) (M : Laws m) where
   pub itself : (a b : ℕ) → a < 2 ^ 64 → a ≡ b → m.no_worse a b ≡ true
@@ -42,3 +43,26 @@ module _ (m : Scale) (M : Laws m) where
       let m = q.tie (sym v) in
       let n : a.node ≡ b.node = omega arith in
       (λ i. record { value = v i; node = n i })
+
+pub steps_total : (a b : Hop) → Unit {0} → Unit {0} → StepsBefore a b ⊎ StepsBefore b a
+steps_total a b f g = ⊎_elim
+    (λ e. ⊎_elim (λ lt. inl (omega arith, λ _. omega arith)) (λ le. inr (omega arith, λ _. le)) (cases_lt a.link b.link))
+    (λ u. ⊎_elim (λ lt. inl (omega arith, λ e. absurd (u e))) (λ le. inr (le, λ e. absurd (u (sym e)))) (cases_lt a.steps b.steps))
+    (cases_eq a.steps b.steps)
+
+pub steps_chain : (a b c : Hop) → StepsBefore a b → StepsBefore b c → StepsBefore a c
+steps_chain a b c (ab, tie_ab) (bc, tie_bc) = (
+  omega arith,
+  λ e.
+      let l : a.link ≤ b.link = tie_ab (omega arith) in
+      let m : b.link ≤ c.link = tie_bc (omega arith) in
+      omega arith,
+)
+
+pub steps_same : (a b : Hop) → StepsBefore a b → StepsBefore b a → a ≡ b
+steps_same a b (ab, tie_ab) (ba, tie_ba) =
+    let s : a.steps ≡ b.steps = omega arith in
+    let l = tie_ab s in
+    let m = tie_ba (sym s) in
+    let k : a.link ≡ b.link = omega arith in
+    (λ i. record { steps = s i; link = k i })

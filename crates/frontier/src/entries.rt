@@ -1,7 +1,6 @@
 // The heap entries of the two searches, and their orders.
 ghost use Rattle.frontier.specs.Orders.{ValueFits, ValueBefore, StepsBefore};
-ghost use Rattle.frontier.specs.OrdersLemmas.{value_total, value_chain, value_same};
-ghost use Rattle.std.proofs.Common.{rules};
+ghost use Rattle.frontier.specs.OrdersLemmas.{value_total, value_chain, value_same, steps_total, steps_chain, steps_same};
 
 use heap::Order;
 use measures::Measure;
@@ -61,11 +60,11 @@ impl Order<Hop> for BySteps {
 
     ghost before = { StepsBefore };
 
-    ghost total = { Prim.search rules };
+    ghost total = { steps_total };
 
-    ghost chain = { Prim.search rules };
+    ghost chain = { steps_chain };
 
-    ghost same = { Prim.search rules };
+    ghost same = { steps_same };
 
     fn no_later(a: &Hop, b: &Hop) -> bool {
         if a.steps == b.steps {

@@ -1,7 +1,7 @@
 -- Bytes are cut into lines in one way only.
 use Rattle.std.proofs.Common.{◌≡◌, ℕ, List, [], ◌∷◌, ◌++◌, length, sym, refl, ap, ◌∙◌, append_assoc, arith}
 use Rattle.std.specs.List.{flat_map}
-use Rattle.lines.specs.Lines.{Unbroken, AllUnbroken, broken_off, Cut, LinesOf, last_line}
+use Rattle.lines.specs.Lines.{Unbroken, AllUnbroken, broken_off, LinesOf, last_line}
 
 -- The first byte 10 ends the first line.
 same_line : (l k xs ys : List ℕ) → Unbroken l → Unbroken k → l ++ (10 ∷ xs) ≡ k ++ (10 ∷ ys) → (l ≡ k) × (xs ≡ ys)

@@ -98,8 +98,8 @@ fn check_sizes(bytes: &[u8]) -> Result<(), MapFault>
 
 // Is link k one that a draft would take?
 fn check_link(bytes: &[u8], nodes: usize, count: usize, k: usize) -> Result<(), MapFault>
-    requires bytes_len { (length bytes.now ≡ 4 + 12 * count) × ((k < count) × (count ≤ 1024)) }
-    requires nodes_value { (nodes ≡ node_count bytes.now) × (count ≡ link_count bytes.now) }
+    requires sized { (length bytes.now ≡ 4 + 12 * count) × ((k < count) × (count ≤ 1024)) }
+    requires counted { (nodes ≡ node_count bytes.now) × (count ≡ link_count bytes.now) }
     ensures { result ≡ answered (link_fault bytes.now k) }
 {
     admit(nodes, k, read_link(bytes, count, k))?;
@@ -108,8 +108,8 @@ fn check_link(bytes: &[u8], nodes: usize, count: usize, k: usize) -> Result<(), 
 
 // Is each link of a map whose sizes are right one that a draft would take?
 fn check_links(bytes: &[u8], nodes: usize, count: usize) -> Result<(), MapFault>
-    requires bytes_len { (length bytes.now ≡ 4 + 12 * count) × (count ≤ 1024) }
-    requires nodes_value { (nodes ≡ node_count bytes.now) × (count ≡ link_count bytes.now) }
+    requires sized { (length bytes.now ≡ 4 + 12 * count) × (count ≤ 1024) }
+    requires counted { (nodes ≡ node_count bytes.now) × (count ≡ link_count bytes.now) }
     ensures { result ≡ answered (first (link_fault bytes.now) 0 count) }
 {
     for k in 0..count {

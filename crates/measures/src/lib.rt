@@ -3,7 +3,7 @@
 
 ghost use Rattle.std.specs.Prelude.{◌≡◌};
 ghost use Rattle.definitions.specs.Measures.{Scale, Laws, delay, width};
-ghost use Rattle.std.proofs.Common.{rules};
+ghost use Rattle.definitions.proofs.Scales.{delay_laws, width_laws};
 
 // A rule for the value of a route. A value is a 64-bit number, a figure a 32-bit one.
 pub trait Measure {
@@ -37,7 +37,7 @@ impl Measure for Delay {
 
     ghost scale = { delay };
 
-    ghost lawful = { Prim.search rules };
+    ghost lawful = { delay_laws };
 
     fn starting() -> u64 {
         Self::START
@@ -60,7 +60,7 @@ impl Measure for Width {
 
     ghost scale = { width };
 
-    ghost lawful = { Prim.search rules };
+    ghost lawful = { width_laws };
 
     fn starting() -> u64 {
         Self::START
