@@ -1,9 +1,9 @@
 -- A buffer of 512 entries holds every route, backup and trace.
-use Rattle.std.proofs.Common.{◌≡◌, ℕ, ◌<◌, ◌≤◌, ◌⊎◌, List, length, Ok, Err, Result, sym, refl, ap, ◌∙◌, inl, inr, arith}
+use Rattle.std.proofs.Common.{◌≡◌, ℕ, ◌<◌, ◌≤◌, List, length, Ok, Err, Result, sym, refl, ap, ◌∙◌, inl, inr, arith}
 use Rattle.definitions.specs.declared.Failure.{Failure}
 use Rattle.definitions.specs.declared.Failure.TheVariants.{Nothing, OneLink, OneGroup}
 use Rattle.definitions.specs.Measures.{Scale, Laws}
-use Rattle.definitions.specs.Networks.{Net, Limits, failed}
+use Rattle.definitions.specs.Networks.{Limits, failed}
 use Rattle.definitions.specs.Plans.{worst, Guarantee}
 use Rattle.definitions.proofs.Short.{held_short}
 use Rattle.histories.specs.declared.fault.PlannerFault.{PlannerFault}

@@ -19,7 +19,7 @@ use Rattle.dialogue.specs.declared.dialogue.Dialogue.{Dialogue}
 use Rattle.dialogue.specs.declared.fault.Cause.{Cause}
 use Rattle.dialogue.specs.declared.session.Session.{Session}
 use Rattle.dialogue.specs.declared.session.Session.TheVariants.{Opening, ByDelay, ByWidth}
-use Rattle.dialogue.specs.Dialogues.{Tried, LineAnswer, reply, next_number}
+use Rattle.dialogue.specs.Dialogues.{Tried, reply, next_number}
 use Rattle.dialogue.specs.Sessions.{is_over, Begun, Later, First, Answered, Sound, Answers}
 
 tried_right : (m : Scale) (s s' : State) (r : Result Command LineFault) (result : Result (Command × Outcome) Cause) (buffer filled : List ℕ) → Tried m s r result s' buffer filled → Right m s → Right m s'

@@ -1,5 +1,5 @@
 -- What each command does: the planner's own promise of the call that it makes.
-use Rattle.std.specs.Prelude.{◌≡◌, ℕ, ◌≤◌, Bool, true, false, List, length, is_ok, Err, Result, ◌≢◌}
+use Rattle.std.specs.Prelude.{◌≡◌, ℕ, ◌≤◌, List, length, is_ok, Err, Result, ◌≢◌}
 use Rattle.console.specs.declared.command.Command.{Command}
 use Rattle.console.specs.declared.command.Command.TheVariants.{Plan, Guarantee, Route, Backup, Withdraw, Restore, TraceLink, TraceGroup}
 use Rattle.definitions.specs.declared.Failure.{Failure}
@@ -13,7 +13,7 @@ use Rattle.histories.specs.Histories.{Follows}
 use Rattle.histories.specs.Promise.{GuaranteeHistory, RouteHistory, TraceHistory}
 use Rattle.histories.specs.State.{State, Right}
 use Rattle.dialogue.specs.declared.command.Outcome.{Outcome}
-use Rattle.dialogue.specs.declared.command.Outcome.TheVariants.{Done, Count, Value, Places, Traced}
+use Rattle.dialogue.specs.declared.command.Outcome.TheVariants.{Done, Count, Value, Places}
 use Rattle.dialogue.specs.Outcomes.{mapped, pair_traced}
 
 -- The call of a planner answered q, of which P holds, and the outcome says just that.

@@ -1,5 +1,5 @@
 -- One line of a dialogue with a planner.
-use Rattle.std.specs.Prelude.{◌≡◌, ℕ, ◌+◌, ◌-◌, ◌^◌, min, List, [], ◌∷◌, ◌++◌, length, take, Ok, Err, Result}
+use Rattle.std.specs.Prelude.{◌≡◌, ℕ, ◌+◌, ◌-◌, ◌^◌, min, List, [], ◌∷◌, ◌++◌, length, Ok, Err, Result}
 use Rattle.console.specs.declared.command.Command.{Command}
 use Rattle.console.specs.declared.command.LineFault.{LineFault}
 use Rattle.console.specs.Answers.{refusal_line}

@@ -1,5 +1,5 @@
 -- What a planner's call answers to a command, and its bytes.
-use Rattle.std.specs.Prelude.{ℕ, List, [], ◌∷◌, ◌++◌, take, Ok, Err, Result}
+use Rattle.std.specs.Prelude.{ℕ, List, [], ◌++◌, take, Ok, Err, Result}
 use Rattle.std.specs.List.{flat_map}
 use Rattle.console.specs.Commands.{field}
 use Rattle.histories.specs.declared.fault.PlannerFault.{PlannerFault}

@@ -9,7 +9,7 @@ use Rattle.console.specs.FirstLine.{measure_named, opening_line}
 use Rattle.definitions.specs.Measures.{Scale, delay, width}
 use Rattle.definitions.specs.Networks.{Net}
 use Rattle.histories.specs.Histories.{After}
-use Rattle.histories.specs.State.{State, Opened, Right}
+use Rattle.histories.specs.State.{Opened, Right}
 use Rattle.networks.specs.declared.network.Network.{Ghosts as NetworkGhosts}
 use Rattle.measures.specs.declared.Measure.{Ghosts as MeasureGhosts}
 use Rattle.planner.specs.Planners.{state, network_of}

@@ -11,7 +11,7 @@ use Rattle.planner.specs.Planners.{state}
 use Rattle.dialogue.specs.declared.dialogue.Dialogue.{Dialogue}
 use Rattle.dialogue.specs.declared.session.Session.{Session}
 use Rattle.dialogue.specs.declared.session.Session.TheVariants.{Opening, ByDelay, ByWidth, Ended}
-use Rattle.dialogue.specs.Dialogues.{Tried, LineAnswer}
+use Rattle.dialogue.specs.Dialogues.{Tried}
 use Rattle.dialogue.specs.Sessions.{First, Later, Answers}
 
 measure_short : (line : List ℕ) → measure_named (take 65 line) ≡ measure_named line
