@@ -21,17 +21,17 @@ pub enum DraftFault {
     NoMemory,
 }
 
-impl DraftFault {
-    // Layer, number and place of the fault.
-    pub fn code(&self) -> FaultCode
-        ensures { result ≡ draft_code self.now }
-    {
-        let (number, place) = match self {
-            DraftFault::NodeCount(n) => (1, *n),
-            DraftFault::Full(k) => (2, *k),
-            DraftFault::TailBeyond(k) => (3, usize::from(*k)),
-            DraftFault::HeadBeyond(k) => (4, usize::from(*k)),
-            DraftFault::SameEnds(k) => (5, usize::from(*k)),
+// Layer, number and place of the fault.
+impl From<DraftFault> for FaultCode {
+    ghost from_gives = { λ e r. r ≡ draft_code e };
+
+    fn from(fault: DraftFault) -> FaultCode {
+        let (number, place) = match fault {
+            DraftFault::NodeCount(n) => (1, n),
+            DraftFault::Full(k) => (2, k),
+            DraftFault::TailBeyond(k) => (3, usize::from(k)),
+            DraftFault::HeadBeyond(k) => (4, usize::from(k)),
+            DraftFault::SameEnds(k) => (5, usize::from(k)),
             DraftFault::NoMemory => (0, 0),
         };
         FaultCode {
