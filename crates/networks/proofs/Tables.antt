@@ -1,11 +1,9 @@
 -- Lists of links as networks: one more link, and what the questions before it ensure.
-use Rattle.std.proofs.Common.{◌≡◌, ℕ, zero, suc, ◌^◌, ◌<◌, Bool, true, false, cond, List, [], ◌∷◌, ◌++◌, map, length, Some, None, Ok, Err, Option, sym, refl, ap, ◌∙◌, arith}
+use Rattle.std.proofs.Common.{◌≡◌, ℕ, zero, suc, ◌^◌, ◌<◌, Bool, true, false, cond, List, [], ◌∷◌, ◌++◌, Some, None, Ok, Err, Option, refl, ap, arith}
 use Rattle.std.proofs.lemmas.Bool.Decides.{nat_tests}
-use Rattle.std.proofs.lemmas.List.{length-map, map_push}
 use Rattle.definitions.specs.declared.Link.{Link}
 use Rattle.definitions.specs.Networks.{AllSound, Sound, place, listed}
-use Rattle.networks.specs.declared.draft.DraftFault.{DraftFault}
-use Rattle.networks.specs.Drafts.{refusal, answered, or_memory, Added}
+use Rattle.networks.specs.Drafts.{refusal, answered}
 
 pub sound_push : (nodes : ℕ) (ls : List Link) (l : Link) → AllSound (listed nodes ls) → Sound nodes l → AllSound (listed nodes (ls ++ (l ∷ [])))
 sound_push nodes [] l all s zero x e = let p : l ≡ x = cc in rw p at s
@@ -15,17 +13,6 @@ sound_push nodes (y ∷ ys) l all s (suc k) x e = sound_push nodes ys l (λ j. a
 
 pub sound_unless : (nodes place : ℕ) (l : Link) → None ≡ refusal nodes place l → l.figure < 2 ^ 32 → l.groups < 2 ^ 32 → (place < 1024) × Sound nodes l
 sound_unless nodes place l e f g = grind (arith, nat_tests)
-
--- What `add` promises, from what it knows of its list before and after.
-pub added_ok : (nodes n : ℕ) (ls ms : List Link) (l : Link) → n ≡ length ls → None ≡ refusal nodes n l → ms ≡ ls ++ (l ∷ []) → Added (listed nodes ls) l (Ok n) (listed nodes ms)
-added_ok nodes n ls ms l len none pushed =
-    let same : length (map Some ls) ≡ n = length-map ls Some ∙ sym len in
-    (ap (λ k. refusal nodes k l) same ∙ sym none, sym same, ap (listed nodes) pushed ∙ ap (λ ps. record { nodes = nodes; places = ps }) (map_push Some ls l))
-
-pub added_err : (nodes n : ℕ) (ls ms : List Link) (l : Link) (f : DraftFault) → n ≡ length ls → f ≡ or_memory (refusal nodes n l) → ms ≡ ls → Added (listed nodes ls) l (Err f) (listed nodes ms)
-added_err nodes n ls ms l f len fault kept =
-    let same : length (map Some ls) ≡ n = length-map ls Some ∙ sym len in
-    (fault ∙ ap (λ k. or_memory (refusal nodes k l)) (sym same), ap (listed nodes) kept)
 
 -- A push that may have failed for want of memory.
 pub sound_tried : (nodes : ℕ) (ls ms : List Link) (l : Link) (made : Bool) → ms ≡ cond made (ls ++ (l ∷ [])) ls → AllSound (listed nodes ls) → Sound nodes l → AllSound (listed nodes ms)
