@@ -2,7 +2,7 @@
 ghost use Rattle.std.specs.Prelude.{◌≡◌, []};
 ghost use Rattle.definitions.specs.Networks.{listed};
 ghost use Rattle.networks.specs.declared.draft.DraftFault.TheVariants.{NoMemory};
-ghost use Rattle.networks.specs.Drafts.{drafted, booked, booked_limits, refusal, answered, Sized, Added};
+ghost use Rattle.networks.specs.Drafts.{drafted, booked, booked_limits, refusal, answered, Sized, Added, Laid};
 ghost use Rattle.networks.specs.Faults.{draft_code};
 
 use crate::network::Network;
@@ -70,6 +70,7 @@ pub fn admit(nodes: usize, place: usize, link: Link) -> Result<(), DraftFault>
     if place >= 1024 {
         return Err(DraftFault::Full(place));
     }
+    // A cast, since a place below 1,024 always fits: a try_from would have a branch that nothing takes.
     let number = place as u16;
     if usize::from(link.tail) >= nodes {
         return Err(DraftFault::TailBeyond(number));
@@ -128,6 +129,18 @@ impl Draft {
 }
 
 impl Book {
+    // A network of so many nodes with these links in their order, or the first fault that a draft finds.
+    pub fn from_links(heap: Global, nodes: usize, links: &[Link]) -> Result<Book, DraftFault>
+        ensures { Laid nodes links.now result }
+    {
+        let mut draft = Draft::new(heap);
+        draft.size(nodes)?;
+        for link in links {
+            draft.add(*link)?;
+        }
+        Ok(draft.close())
+    }
+
     // Ends the book; the draft has exactly its nodes and links.
     pub fn reopen(self) -> Draft
         ensures { drafted result ≡ booked self }
