@@ -4,7 +4,7 @@ ghost use Rattle.definitions.specs.Networks.{place};
 ghost use Rattle.frontier.specs.Indexes.{Indexed};
 ghost use Rattle.frontier.specs.Progress.{Indexing};
 
-use crate::lists::{at, fill};
+use crate::lists::at;
 use networks::network::Network;
 
 // The links into each node, the highest number first: `first` has the highest of each node, and `next`
@@ -32,8 +32,8 @@ impl Index {
 pub fn index_links<N: Network>(network: &N, index: &mut Index)
     ensures { Indexed (N.Network.meaning network.now) (place index.new.first) (place index.new.next) }
 {
-    fill(&mut index.first, None);
-    fill(&mut index.next, None);
+    index.first.fill(None);
+    index.next.fill(None);
     for k in 0..network.place_count() {
         enter_place(network, index, k);
     }

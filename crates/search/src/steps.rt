@@ -14,7 +14,7 @@ use crate::values::link_value;
 use definitions::Link;
 use frontier::entries::{BySteps, Hop, Settled};
 use frontier::index::Index;
-use frontier::lists::{at, fill};
+use frontier::lists::at;
 use heap::Heap;
 use measures::Measure;
 use networks::network::Network;
@@ -143,8 +143,8 @@ pub(crate) fn next_links<N: Network, M: Measure>(
     ensures nexts { Nexts (given M.Measure.scale (place recoveries.now)) (N.Network.meaning network.now) t (place steps.new) (place nexts.new) }
     ensures idle { NoNext t (place steps.new) (place nexts.new) }
 {
-    fill(steps, None);
-    fill(nexts, None);
+    steps.fill(None);
+    nexts.fill(None);
     let mut heap = Heap::new(entries);
     count_node::<N, M>(
         network,
