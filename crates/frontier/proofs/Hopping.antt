@@ -23,9 +23,12 @@ use Rattle.frontier.specs.declared.entries.Settled.{Settled}
 use Rattle.frontier.specs.declared.entries.Hop.{Hop}
 use Rattle.frontier.specs.Orders.{StepsBefore}
 use Rattle.frontier.specs.Offers.{made}
-use Rattle.frontier.specs.Progress.{Due, links_into, Hopping, HopOffering}
+use Rattle.frontier.specs.declared.index.Index.{Index}
+use Rattle.frontier.specs.declared.index.LinksInto.{LinksInto}
+use Rattle.frontier.specs.Indexes.{Indexed, Stepped}
+use Rattle.frontier.specs.Progress.{Due, links_into, above, Along, Hopping, HopOffering}
 use Rattle.frontier.specs.Hops.{LabelTight, HopOffered}
-use Rattle.frontier.proofs.Offering.{due_more, due_down, NoneBetween, into, into_hit}
+use Rattle.frontier.proofs.Offering.{due_more, due_down, NoneBetween, into, into_hit, along_start, along_step}
 use Rattle.frontier.proofs.Tallies.{tally_step, tally_hit, tally_front}
 
 module _ (ρ : Valuation) (net : Net) (d s : ℕ → Option ℕ) (from : Settled) where
@@ -100,6 +103,30 @@ module _ (ρ : Valuation) (net : Net) (d s : ℕ → Option ℕ) (from : Settled
           let b = tally_hit (into net from.node) k (into_hit net from.node k off.0 off.1 off.2) in
           let f = O.room in
           absurd (omega arith)
+
+    -- a turn of the search along a walk
+    pub hopping_walk : (index : Index) (w : LinksInto) → w.index.now ≡ index → w.cursor ≡ place index.first from.node →
+        Indexed net (place index.first) (place index.next) → Heaped StepsBefore (held old) →
+        Along net from.node w × HopOffering ρ net d s from old old (above w.cursor)
+    hopping_walk index w e q I H =
+        let (le, none, along) = along_start net index from.node w e q I in
+        (along, hopping_down old _ _ le none (hopping_start H))
+
+    module _ (Fit : ℕ → Type 0) (L : Lawful ρ net Fit) (k : ℕ) (v w : LinksInto) (A : Along net from.node v) (S : Stepped v (Some k) w)
+        (here : Heap Hop) (O : HopOffering ρ net d s from old here (above v.cursor)) where
+      pub hopping_walk_none : HopOffered ρ net d s from k None → Along net from.node w × HopOffering ρ net d s from old here (above w.cursor)
+      hopping_walk_none off =
+          let (at, le, none, along) = along_step net from.node k v w A S in
+          (along, hopping_down here _ k le none (hopping_none Fit L k here (subst (HopOffering ρ net d s from old here) at O) off))
+
+      pub hopping_walk_some : length (held old) + links_into net from.node (length net.places) ≤ capacity old →
+          (e : Hop) → HopOffered ρ net d s from k (Some e) → (b : Bool) (new : Heap Hop) →
+          MatchBool b (IsPermutation (e ∷ held here) (held new)) (new ≡ here) → MatchBool b (length (held here) < capacity here) (length (held here) ≡ capacity here) →
+          (Heaped StepsBefore (held here) → Heaped StepsBefore (held new)) → capacity new ≡ capacity here →
+          Along net from.node w × HopOffering ρ net d s from old new (above w.cursor)
+      hopping_walk_some room e off b new taken full H keeps =
+          let (at, le, none, along) = along_step net from.node k v w A S in
+          (along, hopping_down new _ k le none (hopping_some Fit L k here (subst (HopOffering ρ net d s from old here) at O) room e off b new taken full H keeps))
 
 -- The test of a tight link by the labels.
 pub meeting_test : (m : Scale) (r d : ℕ → Option ℕ) (k : ℕ) (l : Link) (b a w : ℕ) → d l.head ≡ Some b → d l.tail ≡ Some a →

@@ -15,6 +15,7 @@ module _ (net : Net) where
   pub index_start : (first next : ℕ → Option ℕ) → ((u : ℕ) → first u ≡ None) → ((u : ℕ) → next u ≡ None) → IndexedBelow net first next 0
   index_start first next f n = record {
     first_owned = λ u j e. absurd (not_both (first u) j e (f u));
+    falls = λ j i e. absurd (not_both (next j) i e (n j));
     next_owned = λ u j i o e. absurd (not_both (next j) i e (n j));
     first_covers = λ k l lt h. absurd (omega arith);
     next_covers = λ u j k l lt. absurd (omega arith);
@@ -24,6 +25,7 @@ module _ (net : Net) where
   index_end first next n le I = record {
     owner = λ j. head_of (place net.places j);
     first_owned = λ u j e. let (lt, o) = I.first_owned u j e in (omega arith, o);
+    falls = I.falls;
     next_owned = I.next_owned;
     first_covers = λ k l h. I.first_covers k l (let z = holds_inside net k l h in omega arith) h;
     next_covers = λ u j k l o h q lt. I.next_covers u j k l (owned_inside u j o) o h q lt;
@@ -40,6 +42,7 @@ module _ (net : Net) where
   pub index_none : (first next : ℕ → Option ℕ) (k : ℕ) → place net.places k ≡ None → IndexedBelow net first next k → IndexedBelow net first next (k + 1)
   index_none first next k e I = record {
     first_owned = λ u j q. let (lt, o) = I.first_owned u j q in (omega arith, o);
+    falls = I.falls;
     next_owned = I.next_owned;
     first_covers = λ i l lt h. elim (ℕ_discrete i k) [
       | yes p ↦ (let h' : Holds net k l = subst (λ x. Holds net x l) p h in let z : ◌≡◌ {A = ℕ} 0 1 = cc in absurd (omega arith))
@@ -67,12 +70,19 @@ module _ (net : Net) where
           (omega arith, subst (λ x. head_of (place net.places x) ≡ Some u) kj (own ∙ ap Some (sym p))))
       | no n ↦ (let (lt, o) = I.first_owned u j (sym (place_set_other first l.head u (Some k) n) ∙ e) in (omega arith, o))
     ];
+    falls = λ j i e. elim (ℕ_discrete j k) [
+      | yes p ↦ (
+          let e' : place first l.head ≡ Some i = sym (place_set_same next k (place first l.head) inn) ∙ (ap (place (set next k (place first l.head))) (sym p) ∙ e) in
+          let (lt, o') = I.first_owned l.head i e' in
+          omega arith)
+      | no n ↦ I.falls j i (sym (place_set_other next k j (place first l.head) n) ∙ e)
+    ];
     next_owned = λ u j i o e. elim (ℕ_discrete j k) [
       | yes p ↦ (
           let e' : place first l.head ≡ Some i = sym (place_set_same next k (place first l.head) inn) ∙ (ap (place (set next k (place first l.head))) (sym p) ∙ e) in
           let (lt, o') = I.first_owned l.head i e' in
           let o'' : head_of (place net.places k) ≡ Some u = subst (λ x. head_of (place net.places x) ≡ Some u) p o in
-          (omega arith, o' ∙ (sym own ∙ o'')))
+          o' ∙ (sym own ∙ o''))
       | no n ↦ I.next_owned u j i o (sym (place_set_other next k j (place first l.head) n) ∙ e)
     ];
     first_covers = λ i l' lt h'. elim (ℕ_discrete l'.head l.head) [
@@ -115,6 +125,7 @@ module _ (net : Net) where
   index_layer gone first next I = record {
     owner = I.owner;
     first_owned = λ u j e. let (lt, o) = I.first_owned u j e in let same = length_emptied gone net.places in (omega arith, o);
+    falls = I.falls;
     next_owned = I.next_owned;
     first_covers = λ k l h. I.first_covers k l (below gone net k l h).0;
     next_covers = λ u j k l o h. I.next_covers u j k l o (below gone net k l h).0;

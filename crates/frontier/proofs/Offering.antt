@@ -22,8 +22,11 @@ use Rattle.heap.specs.Holds.{held, capacity}
 use Rattle.std.proofs.lemmas.List.Sorted.{length_permutation}
 use Rattle.frontier.specs.Orders.{ValueBefore}
 use Rattle.frontier.specs.Offers.{Fitting, Offered}
-use Rattle.frontier.specs.Progress.{Waiting, Due, Offering, leads_to, links_into, above, Owns}
-use Rattle.frontier.specs.Indexes.{UpTo, Indexed}
+use Rattle.std.specs.Prelude.{option_and_then}
+use Rattle.frontier.specs.declared.index.Index.{Index}
+use Rattle.frontier.specs.declared.index.LinksInto.{LinksInto}
+use Rattle.frontier.specs.Progress.{Waiting, Due, Offering, leads_to, links_into, above, Owns, Along}
+use Rattle.frontier.specs.Indexes.{UpTo, Indexed, Stepped}
 use Rattle.frontier.proofs.Tallies.{tally_step, tally_hit, tally_front}
 
 -- a place that holds a link is one of the places
@@ -152,14 +155,49 @@ pub next_bound : (net : Net) (first next : ℕ → Option ℕ) (I : Indexed net 
     (above o ≤ k) × NoneBetween net u (above o) k × Owns I.owner u o
 next_bound net first next I u k None own e = (omega arith, (λ j i h q lo hi. subst (UpTo j) (sym e) (I.next_covers u k j i own h q hi)), tt)
 next_bound net first next I u k (Some j) own e =
-    let (lt, own') = I.next_owned u k j own (sym e) in
+    let own' = I.next_owned u k j own (sym e) in
+    let lt = I.falls k j (sym e) in
     (omega arith, (λ j' i h q lo hi. let z : j' ≤ j = subst (UpTo j') (sym e) (I.next_covers u k j' i own h q hi) in omega arith), own')
 
--- one turn of the loop along the links into u
-pub turn_bound : (net : Net) (first next : ℕ → Option ℕ) (I : Indexed net first next) (u link k : ℕ) (cursor o : Option ℕ) →
-    cursor ≡ Some link → k ≡ link → Owns I.owner u cursor → o ≡ next k →
-    (above cursor ≡ k + 1) × (above o ≤ k) × NoneBetween net u (above o) k × Owns I.owner u o
-turn_bound net first next I u link k cursor o is e own q =
-    let own' : I.owner k ≡ Some u = ap I.owner e ∙ subst (Owns I.owner u) is own in
-    let (le, none, rest) = next_bound net first next I u k o own' q in
-    (ap above is ∙ ap (λ x. x + 1) (sym e), le, none, rest)
+-- a walk begins
+pub along_start : (net : Net) (index : Index) (u : ℕ) (s : LinksInto) → s.index.now ≡ index → s.cursor ≡ place index.first u →
+    Indexed net (place index.first) (place index.next) →
+    (above s.cursor ≤ length net.places) × NoneBetween net u (above s.cursor) (length net.places) × Along net u s
+along_start net index u s e q I =
+    let here : Indexed net (place s.index.now.first) (place s.index.now.next) = subst (λ i. Indexed net (place i.first) (place i.next)) (sym e) I in
+    let (le, none, own) = first_bound net _ _ here u s.cursor (q ∙ ap (λ i. place i.first u) (sym e)) in
+    (le, none, (here, own))
+
+-- and goes on
+pub along_step : (net : Net) (u k : ℕ) (s t : LinksInto) → Along net u s → Stepped s (Some k) t →
+    (above s.cursor ≡ k + 1) × (above t.cursor ≤ k) × NoneBetween net u (above t.cursor) k × Along net u t
+along_step net u k s t (I, own) (is, same, then) =
+    let (le, none, rest) = next_bound net _ _ I u k t.cursor (subst (Owns I.owner u) (sym is) own) (then ∙ ap (option_and_then (place s.index.now.next)) (sym is)) in
+    (ap above (sym is), le, none, subst (λ i. (J : Indexed net (place i.first) (place i.next)) × Owns J.owner u t.cursor) (sym same) (I, rest))
+
+-- a turn of the search along a walk
+module _ (m : Scale) (M : Laws m) (r : ℕ → Option ℕ) (net : Net) (F : Fitting net r) (N : Limits net) (d : ℕ → Option ℕ) (from : Candidate) (old : Heap Candidate) where
+  pub offering_walk : (index : Index) (s : LinksInto) → s.index.now ≡ index → s.cursor ≡ place index.first from.node →
+      Indexed net (place index.first) (place index.next) → Heaped (ValueBefore m) (held old) →
+      Along net from.node s × Offering m r net d from old old (above s.cursor)
+  offering_walk index s e q I H =
+      let (le, none, along) = along_start net index from.node s e q I in
+      (along, offering_down m M r net F N d from old old _ _ le none (offering_start m M r net F N d from old H))
+
+  module _ (k : ℕ) (s t : LinksInto) (A : Along net from.node s) (S : Stepped s (Some k) t) (here : Heap Candidate) (O : Offering m r net d from old here (above s.cursor)) where
+    pub offering_walk_none : Offered (given m r) net d from k None → Along net from.node t × Offering m r net d from old here (above t.cursor)
+    offering_walk_none off =
+        let (at, le, none, along) = along_step net from.node k s t A S in
+        (along, offering_down m M r net F N d from old here _ k le none (offering_none m M r net F N d from old k here (subst (Offering m r net d from old here) at O) off))
+
+    pub offering_walk_some : length (held old) + links_into net from.node (length net.places) ≤ capacity old →
+        (e : Candidate) → Offered (given m r) net d from k (Some e) → (b : Bool) (new : Heap Candidate) →
+        MatchBool b (IsPermutation (e ∷ held here) (held new)) (new ≡ here) → MatchBool b (length (held here) < capacity here) (length (held here) ≡ capacity here) →
+        (Heaped (ValueBefore m) (held here) → Heaped (ValueBefore m) (held new)) → capacity new ≡ capacity here →
+        Along net from.node t × Offering m r net d from old new (above t.cursor)
+    offering_walk_some room e off b new taken full H keeps =
+        let (at, le, none, along) = along_step net from.node k s t A S in (
+          along,
+          offering_down m M r net F N d from old new _ k le none
+              (offering_some m M r net F N d from old k here (subst (Offering m r net d from old here) at O) room e off b new taken full H keeps),
+        )

@@ -15,7 +15,8 @@ use Rattle.frontier.specs.declared.entries.Settled.{Settled}
 use Rattle.frontier.specs.declared.entries.Hop.{Hop}
 use Rattle.frontier.specs.declared.index.Index.{Index}
 use Rattle.frontier.specs.Orders.{ValueBefore, StepsBefore}
-use Rattle.frontier.specs.Indexes.{UpTo}
+use Rattle.frontier.specs.declared.index.LinksInto.{LinksInto}
+use Rattle.frontier.specs.Indexes.{UpTo, Falling, Indexed}
 use Rattle.frontier.specs.Hops.{NoNext}
 
 -- The head of the link that a place holds.
@@ -26,7 +27,8 @@ head_of (Some l) = Some l.head
 -- `first` and `next` are an index of the links at the places below n.
 pub record IndexedBelow (net : Net) (first next : ℕ → Option ℕ) (n : ℕ) : Type 0 where
   pub first_owned : (u j : ℕ) → first u ≡ Some j → (j < n) × (head_of (place net.places j) ≡ Some u)
-  pub next_owned : (u j i : ℕ) → head_of (place net.places j) ≡ Some u → next j ≡ Some i → (i < j) × (head_of (place net.places i) ≡ Some u)
+  pub falls : Falling next
+  pub next_owned : (u j i : ℕ) → head_of (place net.places j) ≡ Some u → next j ≡ Some i → head_of (place net.places i) ≡ Some u
   pub first_covers : (k : ℕ) (l : Link) → k < n → Holds net k l → UpTo k (first l.head)
   pub next_covers : (u j k : ℕ) (l : Link) → j < n → head_of (place net.places j) ≡ Some u → Holds net k l → l.head ≡ u → k < j → UpTo k (next j)
 
@@ -43,6 +45,10 @@ above (Some j) = j + 1
 abbrev pub Owns : (ℕ → Option ℕ) → ℕ → Option ℕ → Type 0
 Owns owner u None = Unit {0}
 Owns owner u (Some j) = owner j ≡ Some u
+
+-- The walk goes by an index of the network, and stands at a place of u or at its end.
+abbrev pub Along : Net → ℕ → LinksInto → Type 0
+Along net u s = (I : Indexed net (place s.index.now.first) (place s.index.now.next)) × Owns I.owner u s.cursor
 
 -- Of the links into u, those from place b on have been offered.
 abbrev pub Due : ℕ → ℕ → ℕ → Link → Type 0

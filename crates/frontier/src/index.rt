@@ -1,8 +1,9 @@
 // The index of the links into each node.
 ghost use Rattle.std.specs.Prelude.{◌≡◌, ◌+◌, ◌<◌, length, replicate, None};
 ghost use Rattle.definitions.specs.Networks.{place};
-ghost use Rattle.frontier.specs.Indexes.{Indexed};
-ghost use Rattle.frontier.specs.Progress.{Indexing};
+ghost use Rattle.std.specs.Iterator.{at_most};
+ghost use Rattle.frontier.specs.Indexes.{Indexed, Falling, Stepped};
+ghost use Rattle.frontier.specs.Progress.{Indexing, above};
 
 use crate::lists::at;
 use networks::network::Network;
@@ -25,6 +26,40 @@ impl Index {
             first: [None; 256],
             next: [None; 1024],
         }
+    }
+
+    // The places that hold the links into a node, the highest first.
+    pub fn links_into(&self, node: u16) -> LinksInto<'_>
+        ensures index { result.index.now ≡ self.now }
+        ensures cursor { result.cursor ≡ place self.now.first node }
+    {
+        LinksInto {
+            index: self,
+            cursor: at(&self.first, usize::from(node)),
+        }
+    }
+}
+
+// A walk along the links into one node: it stands at the place that it gives next.
+#[derive(Drop)]
+pub struct LinksInto<'a> {
+    index: &'a Index,
+    cursor: Option<u16>,
+}
+
+impl<'a> Iterator for LinksInto<'a> {
+    type Item = usize;
+
+    ghost can_next = { λ s. Falling (place s.index.now.next) };
+
+    ghost next_gives = { Stepped };
+
+    ghost remaining = { λ s. at_most (above s.cursor) };
+
+    fn next(&mut self) -> Option<usize> {
+        let k = usize::from(self.cursor?);
+        self.cursor = at(&self.index.next, k);
+        Some(k)
     }
 }
 

@@ -87,13 +87,10 @@ fn offer_hops<N: Network, M: Measure>(
     requires room { length (held heap.old) + links_into (N.Network.meaning network.now) from.node (length (N.Network.meaning network.now).places) ≤ capacity heap.old }
     ensures { HopOffering (given M.Measure.scale (place recoveries.now)) (N.Network.meaning network.now) (place values.now) (place steps.now) from heap.old heap.new 0 }
 {
-    let mut cursor = at(&index.first, usize::from(from.node));
-    while let Some(link) = cursor {
-        let k = usize::from(link);
+    for k in index.links_into(from.node) {
         if let Some(hop) = offer_hop::<N, M>(network, recoveries, values, steps, from, k) {
             let _ = heap.push::<BySteps>(hop);
         }
-        cursor = at(&index.next, k);
     }
 }
 
