@@ -1,5 +1,5 @@
 -- A search for next links, as it offers the places one by one.
-use Rattle.std.proofs.Common.{◌≡◌, ℕ, ◌+◌, ◌<◌, ◌≤◌, Bool, true, false, eqb, List, ◌∷◌, length, Some, None, Decides, MatchBool, Option, sym, refl, ap, ◌∙◌, subst, inl, inr, arith}
+use Rattle.std.proofs.Common.{◌≡◌, ℕ, ◌+◌, ◌<◌, ◌≤◌, Bool, true, false, Result, Ok, Err, eqb, List, ◌∷◌, length, Some, None, Decides, MatchResult, Option, sym, refl, ap, ◌∙◌, subst, inl, inr, arith}
 use native.Mathlib.Decide.{ℕ_discrete}
 use Rattle.std.proofs.lemmas.Bool.{eqb-true, eq-eqb}
 use Rattle.std.specs.List.Sorted.{IsPermutation}
@@ -85,10 +85,10 @@ module _ (ρ : Valuation) (net : Net) (d s : ℕ → Option ℕ) (from : Settled
       }
 
       pub hopping_some : length (held old) + links_into net from.node (length net.places) ≤ capacity old →
-          (e : Hop) → HopOffered ρ net d s from k (Some e) → (b : Bool) (new : Heap Hop) →
-          MatchBool b (IsPermutation (e ∷ held here) (held new)) (new ≡ here) → MatchBool b (length (held here) < capacity here) (length (held here) ≡ capacity here) →
+          (e : Hop) → HopOffered ρ net d s from k (Some e) → {A B : Type 0} (b : Result A B) (new : Heap Hop) →
+          MatchResult b (λ _. IsPermutation (e ∷ held here) (held new)) (λ _. new ≡ here) → MatchResult b (λ _. length (held here) < capacity here) (λ _. length (held here) ≡ capacity here) →
           (Heaped StepsBefore (held here) → Heaped StepsBefore (held new)) → capacity new ≡ capacity here → HopOffering ρ net d s from old new k
-      hopping_some room e off true new sh _ H keeps = record {
+      hopping_some room e off (Ok _) new sh _ H keeps = record {
         order = H O.order;
         few = (
             let a = O.few in
@@ -98,7 +98,7 @@ module _ (ρ : Valuation) (net : Net) (d s : ℕ → Option ℕ) (from : Settled
         room = keeps ∙ O.room;
         offered = λ t nx S lab R. hopped_some Fit L t nx S lab k (held here) (O.offered t nx S lab R) e (held new) off sh;
       }
-      hopping_some room e off false new sh full H keeps =
+      hopping_some room e off (Err _) new sh full H keeps =
           let a = O.few in
           let b = tally_hit (into net from.node) k (into_hit net from.node k off.0 off.1 off.2) in
           let f = O.room in
@@ -120,8 +120,8 @@ module _ (ρ : Valuation) (net : Net) (d s : ℕ → Option ℕ) (from : Settled
           (along, hopping_down here _ k le none (hopping_none Fit L k here (subst (HopOffering ρ net d s from old here) at O) off))
 
       pub hopping_walk_some : length (held old) + links_into net from.node (length net.places) ≤ capacity old →
-          (e : Hop) → HopOffered ρ net d s from k (Some e) → (b : Bool) (new : Heap Hop) →
-          MatchBool b (IsPermutation (e ∷ held here) (held new)) (new ≡ here) → MatchBool b (length (held here) < capacity here) (length (held here) ≡ capacity here) →
+          (e : Hop) → HopOffered ρ net d s from k (Some e) → {A B : Type 0} (b : Result A B) (new : Heap Hop) →
+          MatchResult b (λ _. IsPermutation (e ∷ held here) (held new)) (λ _. new ≡ here) → MatchResult b (λ _. length (held here) < capacity here) (λ _. length (held here) ≡ capacity here) →
           (Heaped StepsBefore (held here) → Heaped StepsBefore (held new)) → capacity new ≡ capacity here →
           Along net from.node w × HopOffering ρ net d s from old new (above w.cursor)
       hopping_walk_some room e off b new taken full H keeps =

@@ -1,5 +1,5 @@
 -- A search for values, as it offers the places one by one.
-use Rattle.std.proofs.Common.{◌≡◌, ℕ, ◌+◌, ◌<◌, ◌≤◌, Bool, true, false, List, ◌∷◌, length, Some, None, MatchBool, Option, sym, refl, ap, ◌∙◌, subst, inl, inr, arith}
+use Rattle.std.proofs.Common.{◌≡◌, ℕ, ◌+◌, ◌<◌, ◌≤◌, Bool, true, false, Result, Ok, Err, List, ◌∷◌, length, Some, None, MatchResult, Option, sym, refl, ap, ◌∙◌, subst, inl, inr, arith}
 use native.Mathlib.Decide.{ℕ_discrete}
 use Rattle.std.specs.List.Sorted.{IsPermutation}
 use Rattle.std.specs.List.{ContainsAt as Has}
@@ -124,10 +124,10 @@ module _ (m : Scale) (M : Laws m) (r : ℕ → Option ℕ) (net : Net) (F : Fitt
     }
 
     pub offering_some : length (held old) + links_into net from.node (length net.places) ≤ capacity old →
-        (e : Candidate) → Offered (given m r) net d from k (Some e) → (b : Bool) (new : Heap Candidate) →
-        MatchBool b (IsPermutation (e ∷ held here) (held new)) (new ≡ here) → MatchBool b (length (held here) < capacity here) (length (held here) ≡ capacity here) →
+        (e : Candidate) → Offered (given m r) net d from k (Some e) → {A B : Type 0} (b : Result A B) (new : Heap Candidate) →
+        MatchResult b (λ _. IsPermutation (e ∷ held here) (held new)) (λ _. new ≡ here) → MatchResult b (λ _. length (held here) < capacity here) (λ _. length (held here) ≡ capacity here) →
         (Heaped (ValueBefore m) (held here) → Heaped (ValueBefore m) (held new)) → capacity new ≡ capacity here → Offering m r net d from old new k
-    offering_some room e off true new s _ H keeps = record {
+    offering_some room e off (Ok _) new s _ H keeps = record {
       order = H O.order;
       few = (
           let a = O.few in
@@ -137,7 +137,7 @@ module _ (m : Scale) (M : Laws m) (r : ℕ → Option ℕ) (net : Net) (F : Fitt
       room = keeps ∙ O.room;
       offered = λ t lab R. offered_some (given m r) net t Value (given_lawful m M net N t r F) d from lab k (held here) (O.offered t lab R) e (held new) off s;
     }
-    offering_some room e off false new s full H keeps =
+    offering_some room e off (Err _) new s full H keeps =
         let a = O.few in
         let b = tally_hit (into net from.node) k (into_hit net from.node k off.0 off.1 off.2) in
         let f = O.room in
@@ -191,8 +191,8 @@ module _ (m : Scale) (M : Laws m) (r : ℕ → Option ℕ) (net : Net) (F : Fitt
         (along, offering_down m M r net F N d from old here _ k le none (offering_none m M r net F N d from old k here (subst (Offering m r net d from old here) at O) off))
 
     pub offering_walk_some : length (held old) + links_into net from.node (length net.places) ≤ capacity old →
-        (e : Candidate) → Offered (given m r) net d from k (Some e) → (b : Bool) (new : Heap Candidate) →
-        MatchBool b (IsPermutation (e ∷ held here) (held new)) (new ≡ here) → MatchBool b (length (held here) < capacity here) (length (held here) ≡ capacity here) →
+        (e : Candidate) → Offered (given m r) net d from k (Some e) → {A B : Type 0} (b : Result A B) (new : Heap Candidate) →
+        MatchResult b (λ _. IsPermutation (e ∷ held here) (held new)) (λ _. new ≡ here) → MatchResult b (λ _. length (held here) < capacity here) (λ _. length (held here) ≡ capacity here) →
         (Heaped (ValueBefore m) (held here) → Heaped (ValueBefore m) (held new)) → capacity new ≡ capacity here →
         Along net from.node t × Offering m r net d from old new (above t.cursor)
     offering_walk_some room e off b new taken full H keeps =
