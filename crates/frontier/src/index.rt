@@ -10,7 +10,7 @@ use networks::network::Network;
 
 // The links into each node, the highest number first: `first` has the highest of each node, and `next`
 // the next lower at each place.
-#[derive(Drop)]
+#[derive(PartialEq, Eq, Debug, Drop)]
 pub struct Index {
     pub first: [Option<u16>; 256],
     pub next: [Option<u16>; 1024],
@@ -28,6 +28,17 @@ impl Index {
         }
     }
 
+    // Enters the link at place k, where the places below are entered.
+    fn enter_place<N: Network>(&mut self, network: &N, k: usize)
+        requires inside { k < length (N.Network.meaning network.now).places }
+        requires below { Indexing (N.Network.meaning network.now) self.old k }
+        ensures { Indexing (N.Network.meaning network.now) self.new (k + 1) }
+    {
+        if let Some(link) = network.place(k) {
+            self.next[k] = self.first[usize::from(link.head)].replace(k as u16);
+        }
+    }
+
     // The places that hold the links into a node, the highest first.
     pub fn links_into(&self, node: u16) -> LinksInto<'_>
         ensures index { result.index.now ≡ self.now }
@@ -41,7 +52,7 @@ impl Index {
 }
 
 // A walk along the links into one node: it stands at the place that it gives next.
-#[derive(Drop)]
+#[derive(Clone, Debug, Drop)]
 pub struct LinksInto<'a> {
     index: &'a Index,
     cursor: Option<u16>,
@@ -70,19 +81,6 @@ pub fn index_links<N: Network>(network: &N, index: &mut Index)
     index.first.fill(None);
     index.next.fill(None);
     for k in 0..network.place_count() {
-        enter_place(network, index, k);
-    }
-}
-
-// Enters the link at place k, where the places below are entered.
-fn enter_place<N: Network>(network: &N, index: &mut Index, k: usize)
-    requires inside { k < length (N.Network.meaning network.now).places }
-    requires below { Indexing (N.Network.meaning network.now) index.old k }
-    ensures { Indexing (N.Network.meaning network.now) index.new (k + 1) }
-{
-    if let Some(link) = network.place(k) {
-        let head = usize::from(link.head);
-        index.next[k] = at(&index.first, head);
-        index.first[head] = Some(k as u16);
+        index.enter_place(network, k);
     }
 }
