@@ -1,9 +1,9 @@
 -- A search for next links, as it offers the places one by one.
-use Rattle.std.proofs.Common.{◌≡◌, ℕ, ◌+◌, ◌<◌, ◌≤◌, Bool, true, false, Result, Ok, Err, eqb, List, ◌∷◌, length, Some, None, Decides, MatchResult, Option, sym, refl, ap, ◌∙◌, subst, inl, inr, arith}
+use Rattle.std.proofs.Common.{◌≡◌, ℕ, ◌+◌, ◌<◌, ◌≤◌, Result, Ok, Err, eqb, List, ◌∷◌, length, Some, None, Decides, MatchResult, Option, sym, refl, ap, ◌∙◌, subst, inl, inr, arith}
 use native.Mathlib.Decide.{ℕ_discrete}
 use Rattle.std.proofs.lemmas.Bool.{eqb-true, eq-eqb}
 use Rattle.std.specs.List.Sorted.{IsPermutation}
-use Rattle.std.specs.List.{ContainsAt as Has}
+use Rattle.std.specs.List.{Contains}
 use Rattle.std.proofs.lemmas.List.Sorted.{length_permutation}
 use Rattle.definitions.specs.declared.Link.{Link}
 use Rattle.definitions.specs.Networks.{Net, place}
@@ -28,8 +28,8 @@ use Rattle.frontier.specs.declared.index.LinksInto.{LinksInto}
 use Rattle.frontier.specs.Indexes.{Indexed, Stepped}
 use Rattle.frontier.specs.Progress.{Due, links_into, above, Along, Hopping, HopOffering}
 use Rattle.frontier.specs.Hops.{LabelTight, HopOffered}
-use Rattle.frontier.proofs.Offering.{due_more, due_down, NoneBetween, into, into_hit, along_start, along_step}
-use Rattle.frontier.proofs.Tallies.{tally_step, tally_hit, tally_front}
+use Rattle.frontier.proofs.Offering.{due_more, due_down, NoneBetween, holds_inside, along_start, along_step}
+use Rattle.frontier.proofs.Tallies.{into_front, into_hit}
 
 module _ (ρ : Valuation) (net : Net) (d s : ℕ → Option ℕ) (from : Settled) where
   module _ (Fit : ℕ → Type 0) (L : Lawful ρ net Fit) (t : ℕ) (nx : ℕ → Option ℕ) (S : Labels ρ net t d) (lab : s from.node ≡ Some from.steps)
@@ -58,7 +58,7 @@ module _ (ρ : Valuation) (net : Net) (d s : ℕ → Option ℕ) (from : Settled
           | inl p ↦ inr (ap (λ x. x.steps) p ∙ st, ap (λ x. x.link) p ∙ lk, tight)
           | inr p ↦ inl p
         ])
-        (λ T _. subst (Has es') (λ i. record { steps = st i; link = lk i }) (push_holds es es' e sh))
+        (λ T _. subst (Contains es') (λ i. record { steps = st i; link = lk i }) (push_holds es es' e sh))
         (λ j i due n q. let z = due q in omega arith)
 
   module _ (old : Heap Hop) where
@@ -70,7 +70,7 @@ module _ (ρ : Valuation) (net : Net) (d s : ℕ → Option ℕ) (from : Settled
         HopOffering ρ net d s from old here high → HopOffering ρ net d s from old here low
     hopping_down here low high le none O = record {
       order = O.order;
-      few = (let a = O.few in let b = tally_front (into net from.node) low high le in omega arith);
+      few = (let a = O.few in let b = into_front net from.node low high le in omega arith);
       room = O.room;
       offered = λ t nx S lab R. fewer_due ρ net t s nx (Hopping (held here)) _ _ from.steps (due_down net from.node low high none) (O.offered t nx S lab R);
     }
@@ -79,7 +79,7 @@ module _ (ρ : Valuation) (net : Net) (d s : ℕ → Option ℕ) (from : Settled
       pub hopping_none : HopOffered ρ net d s from k None → HopOffering ρ net d s from old here k
       hopping_none none = record {
         order = O.order;
-        few = (let a = O.few in let b = tally_step (into net from.node) k in omega arith);
+        few = (let a = O.few in let b = into_front net from.node k (k + 1) (omega arith) in omega arith);
         room = O.room;
         offered = λ t nx S lab R. hopped_none Fit L t nx S lab k (held here) (O.offered t nx S lab R) none;
       }
@@ -92,7 +92,7 @@ module _ (ρ : Valuation) (net : Net) (d s : ℕ → Option ℕ) (from : Settled
         order = H O.order;
         few = (
             let a = O.few in
-            let b = tally_hit (into net from.node) k (into_hit net from.node k off.0 off.1 off.2) in
+            let b = into_hit net from.node k off.0 (holds_inside net k off.0 off.1) off.1 off.2 in
             let c = length_permutation _ _ sh in
             omega arith);
         room = keeps ∙ O.room;
@@ -100,7 +100,7 @@ module _ (ρ : Valuation) (net : Net) (d s : ℕ → Option ℕ) (from : Settled
       }
       hopping_some room e off (Err _) new sh full H keeps =
           let a = O.few in
-          let b = tally_hit (into net from.node) k (into_hit net from.node k off.0 off.1 off.2) in
+          let b = into_hit net from.node k off.0 (holds_inside net k off.0 off.1) off.1 off.2 in
           let f = O.room in
           absurd (omega arith)
 

@@ -9,7 +9,7 @@ use Rattle.frontier.specs.declared.index.Index.{Index}
 use Rattle.frontier.specs.Indexes.{UpTo, Indexed}
 use Rattle.frontier.specs.Progress.{head_of, IndexedBelow, Indexing}
 use Rattle.frontier.proofs.Offering.{holds_inside}
-use Rattle.frontier.proofs.Stored.{place_set_same, place_set_other}
+use Rattle.std.proofs.lemmas.List.{get_or-set_same, get_or-set_other}
 
 module _ (net : Net) where
   pub index_start : (first next : ℕ → Option ℕ) → ((u : ℕ) → first u ≡ None) → ((u : ℕ) → next u ≡ None) → IndexedBelow net first next 0
@@ -65,29 +65,29 @@ module _ (net : Net) where
     first_owned = λ u j e. elim (ℕ_discrete u l.head) [
       | yes p ↦ (
           let e' : place (set first l.head (Some k)) l.head ≡ Some j = subst (λ x. place (set first l.head (Some k)) x ≡ Some j) p e in
-          let s = place_set_same first l.head (Some k) inf in
+          let s = get_or-set_same first l.head (Some k) None inf in
           let kj : k ≡ j = cc in
           (omega arith, subst (λ x. head_of (place net.places x) ≡ Some u) kj (own ∙ ap Some (sym p))))
-      | no n ↦ (let (lt, o) = I.first_owned u j (sym (place_set_other first l.head u (Some k) n) ∙ e) in (omega arith, o))
+      | no n ↦ (let (lt, o) = I.first_owned u j (sym (get_or-set_other first l.head u (Some k) None n) ∙ e) in (omega arith, o))
     ];
     falls = λ j i e. elim (ℕ_discrete j k) [
       | yes p ↦ (
-          let e' : place first l.head ≡ Some i = sym (place_set_same next k (place first l.head) inn) ∙ (ap (place (set next k (place first l.head))) (sym p) ∙ e) in
+          let e' : place first l.head ≡ Some i = sym (get_or-set_same next k (place first l.head) None inn) ∙ (ap (place (set next k (place first l.head))) (sym p) ∙ e) in
           let (lt, o') = I.first_owned l.head i e' in
           omega arith)
-      | no n ↦ I.falls j i (sym (place_set_other next k j (place first l.head) n) ∙ e)
+      | no n ↦ I.falls j i (sym (get_or-set_other next k j (place first l.head) None n) ∙ e)
     ];
     next_owned = λ u j i o e. elim (ℕ_discrete j k) [
       | yes p ↦ (
-          let e' : place first l.head ≡ Some i = sym (place_set_same next k (place first l.head) inn) ∙ (ap (place (set next k (place first l.head))) (sym p) ∙ e) in
+          let e' : place first l.head ≡ Some i = sym (get_or-set_same next k (place first l.head) None inn) ∙ (ap (place (set next k (place first l.head))) (sym p) ∙ e) in
           let (lt, o') = I.first_owned l.head i e' in
           let o'' : head_of (place net.places k) ≡ Some u = subst (λ x. head_of (place net.places x) ≡ Some u) p o in
           o' ∙ (sym own ∙ o''))
-      | no n ↦ I.next_owned u j i o (sym (place_set_other next k j (place first l.head) n) ∙ e)
+      | no n ↦ I.next_owned u j i o (sym (get_or-set_other next k j (place first l.head) None n) ∙ e)
     ];
     first_covers = λ i l' lt h'. elim (ℕ_discrete l'.head l.head) [
-      | yes p ↦ subst (UpTo i) (sym (ap (place (set first l.head (Some k))) p ∙ place_set_same first l.head (Some k) inf)) (let z : i ≤ k = omega arith in z)
-      | no n ↦ subst (UpTo i) (sym (place_set_other first l.head l'.head (Some k) n))
+      | yes p ↦ subst (UpTo i) (sym (ap (place (set first l.head (Some k))) p ∙ get_or-set_same first l.head (Some k) None inf)) (let z : i ≤ k = omega arith in z)
+      | no n ↦ subst (UpTo i) (sym (get_or-set_other first l.head l'.head (Some k) None n))
           (I.first_covers i l' (let ne : i ≡ k → ⊥ = λ q. n (ap (λ x. x.head) (same_link net k l' l (subst (λ x. Holds net x l') q h') h)) in omega arith) h')
     ];
     next_covers = λ u j i l' lt o h' q lt'. elim (ℕ_discrete j k) [
@@ -96,9 +96,9 @@ module _ (net : Net) where
           let uh : ◌≡◌ {A = Option ℕ} (Some u) (Some l.head) = sym o'' ∙ own in
           let hu : u ≡ l.head = cc in
           let c : UpTo i (place first l'.head) = I.first_covers i l' (omega arith) h' in
-          subst (UpTo i) (sym (ap (place (set next k (place first l.head))) p ∙ place_set_same next k (place first l.head) inn))
+          subst (UpTo i) (sym (ap (place (set next k (place first l.head))) p ∙ get_or-set_same next k (place first l.head) None inn))
           (subst (λ x. UpTo i (place first x)) (q ∙ hu) c))
-      | no n ↦ subst (UpTo i) (sym (place_set_other next k j (place first l.head) n)) (I.next_covers u j i l' (omega arith) o h' q lt')
+      | no n ↦ subst (UpTo i) (sym (get_or-set_other next k j (place first l.head) None n)) (I.next_covers u j i l' (omega arith) o h' q lt')
     ];
   }
     where

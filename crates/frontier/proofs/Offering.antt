@@ -1,16 +1,17 @@
 -- A search for values, as it offers the places one by one.
-use Rattle.std.proofs.Common.{◌≡◌, ℕ, ◌+◌, ◌<◌, ◌≤◌, Bool, true, false, Result, Ok, Err, List, ◌∷◌, length, Some, None, MatchResult, Option, sym, refl, ap, ◌∙◌, subst, inl, inr, arith}
+use Rattle.std.proofs.Common.{◌≡◌, ℕ, ◌+◌, ◌<◌, ◌≤◌, Result, Ok, Err, List, ◌∷◌, length, Some, None, MatchResult, Option, sym, refl, ap, ◌∙◌, subst, inl, inr, arith}
 use native.Mathlib.Decide.{ℕ_discrete}
 use Rattle.std.specs.List.Sorted.{IsPermutation}
-use Rattle.std.specs.List.{ContainsAt as Has}
-use Rattle.std.proofs.lemmas.Bool.{cases_lt, eq-eqb}
+use Rattle.std.specs.List.{Contains}
+use Rattle.std.proofs.lemmas.List.{get_or_past}
+use Rattle.std.proofs.lemmas.Bool.{cases_lt}
 use Rattle.definitions.specs.declared.Link.{Link}
 use Rattle.definitions.specs.Networks.{Net, Holds, Limits, place}
 use Rattle.definitions.specs.Measures.{Scale, Laws}
 use Rattle.definitions.specs.Routes.{Valuation}
 use Rattle.definitions.specs.Searches.{given, Running}
 use Rattle.definitions.proofs.Fixpoint.{Lawful, via_one}
-use Rattle.definitions.proofs.Layers.{same_link, place_past}
+use Rattle.definitions.proofs.Layers.{same_link}
 use Rattle.definitions.proofs.Settling.{fewer_due, offers, done_fits}
 use Rattle.heap.proofs.Held.{push_keeps, push_holds, push_only}
 use Rattle.frontier.specs.declared.entries.Candidate.{Candidate}
@@ -25,15 +26,15 @@ use Rattle.frontier.specs.Offers.{Fitting, Offered}
 use Rattle.std.specs.Prelude.{option_and_then}
 use Rattle.frontier.specs.declared.index.Index.{Index}
 use Rattle.frontier.specs.declared.index.LinksInto.{LinksInto}
-use Rattle.frontier.specs.Progress.{Waiting, Due, Offering, leads_to, links_into, above, Owns, Along}
+use Rattle.frontier.specs.Progress.{Waiting, Due, Offering, links_into, above, Owns, Along}
 use Rattle.frontier.specs.Indexes.{UpTo, Indexed, Stepped}
-use Rattle.frontier.proofs.Tallies.{tally_step, tally_hit, tally_front}
+use Rattle.frontier.proofs.Tallies.{into_front, into_hit}
 
 -- a place that holds a link is one of the places
 pub holds_inside : (net : Net) (k : ℕ) (l : Link) → Holds net k l → k < length net.places
 holds_inside net k l h = elim (cases_lt k (length net.places)) [
   | inl lt ↦ lt
-  | inr le ↦ (let e = place_past net.places k le in let z : ◌≡◌ {A = ℕ} 0 1 = cc in absurd (omega arith))
+  | inr le ↦ (let e = get_or_past net.places k None le in let z : ◌≡◌ {A = ℕ} 0 1 = cc in absurd (omega arith))
 ]
 
 pub not_both_links : (o : Option Link) (l : Link) → o ≡ Some l → o ≡ None → ⊥
@@ -81,15 +82,8 @@ module _ (ρ : Valuation) (net : Net) (t : ℕ) (Fit : ℕ → Type 0) (L : Lawf
         ])
         (λ w mk' free.
         let one : e.value ≡ w = via_one ρ net t Fit L k l from.value e.value w h (done_fits ρ net t Fit L d (Waiting es) (Due from.node (k + 1)) from.value R from.node from.value lab) mk mk' in
-        subst (Has es') (λ i. record { value = one i; node = sym tl i }) (push_holds es es' e s))
+        subst (Contains es') (λ i. record { value = one i; node = sym tl i }) (push_holds es es' e s))
         (λ j i due n q. let z = due q in omega arith)
-
--- the test by which links into u are counted
-abbrev pub into : Net → ℕ → ℕ → Bool
-into net u k = leads_to u (place net.places k)
-
-pub into_hit : (net : Net) (u k : ℕ) (l : Link) → Holds net k l → l.head ≡ u → into net u k ≡ true
-into_hit net u k l h e = rw h (eq-eqb l.head u e)
 
 -- no link into u lies between two bounds
 abbrev pub NoneBetween : Net → ℕ → ℕ → ℕ → Type 0
@@ -108,7 +102,7 @@ module _ (m : Scale) (M : Laws m) (r : ℕ → Option ℕ) (net : Net) (F : Fitt
       Offering m r net d from old here high → Offering m r net d from old here low
   offering_down here low high le none O = record {
     order = O.order;
-    few = (let a = O.few in let b = tally_front (into net from.node) low high le in omega arith);
+    few = (let a = O.few in let b = into_front net from.node low high le in omega arith);
     room = O.room;
     offered = λ t lab R. fewer_due (given m r) net t Value (given_lawful m M net N t r F) d (Waiting (held here)) _ _ from.value
         (due_down net from.node low high none) (O.offered t lab R);
@@ -118,7 +112,7 @@ module _ (m : Scale) (M : Laws m) (r : ℕ → Option ℕ) (net : Net) (F : Fitt
     pub offering_none : Offered (given m r) net d from k None → Offering m r net d from old here k
     offering_none none = record {
       order = O.order;
-      few = (let a = O.few in let b = tally_step (into net from.node) k in omega arith);
+      few = (let a = O.few in let b = into_front net from.node k (k + 1) (omega arith) in omega arith);
       room = O.room;
       offered = λ t lab R. offered_none (given m r) net t Value (given_lawful m M net N t r F) d from lab k (held here) (O.offered t lab R) none;
     }
@@ -131,7 +125,7 @@ module _ (m : Scale) (M : Laws m) (r : ℕ → Option ℕ) (net : Net) (F : Fitt
       order = H O.order;
       few = (
           let a = O.few in
-          let b = tally_hit (into net from.node) k (into_hit net from.node k off.0 off.1 off.2) in
+          let b = into_hit net from.node k off.0 (holds_inside net k off.0 off.1) off.1 off.2 in
           let c = length_permutation _ _ s in
           omega arith);
       room = keeps ∙ O.room;
@@ -139,7 +133,7 @@ module _ (m : Scale) (M : Laws m) (r : ℕ → Option ℕ) (net : Net) (F : Fitt
     }
     offering_some room e off (Err _) new s full H keeps =
         let a = O.few in
-        let b = tally_hit (into net from.node) k (into_hit net from.node k off.0 off.1 off.2) in
+        let b = into_hit net from.node k off.0 (holds_inside net k off.0 off.1) off.1 off.2 in
         let f = O.room in
         absurd (omega arith)
 

@@ -1,7 +1,7 @@
 -- How far a loop has come: what holds of the index while it is made, and of the two searches between their turns.
 -- No promise of a public call rests on these.
-use Rattle.std.specs.Prelude.{◌≡◌, ℕ, zero, suc, ◌+◌, ◌<◌, ◌≤◌, Bool, false, cond, not, List, length, is_some, Some, None, Option, ◌==◌}
-use Rattle.std.specs.List.{ContainsAt as Has}
+use Rattle.std.specs.Prelude.{◌≡◌, ℕ, ◌+◌, ◌<◌, ◌≤◌, Bool, false, not, List, length, take, is_some, Some, None, Option, ◌==◌}
+use Rattle.std.specs.List.{count_by, Contains}
 use Rattle.definitions.specs.declared.Link.{Link}
 use Rattle.definitions.specs.Networks.{Net, Holds, place}
 use Rattle.definitions.specs.Measures.{Scale}
@@ -54,11 +54,6 @@ Along net u s = (I : Indexed net (place s.index.now.first) (place s.index.now.ne
 abbrev pub Due : ℕ → ℕ → ℕ → Link → Type 0
 Due u b k l = l.head ≡ u → b ≤ k
 
--- Of how many numbers below n the test holds.
-unfoldable pub tally : (ℕ → Bool) → ℕ → ℕ
-tally f zero = 0
-tally f (suc n) = cond (f n) 1 0 + tally f n
-
 -- The place holds a link into u.
 abbrev pub leads_to : ℕ → Option Link → Bool
 leads_to u None = false
@@ -71,15 +66,15 @@ leads_on d (Some l) = not (is_some (d l.head))
 
 -- How many of the first n places hold a link into u.
 abbrev pub links_into : Net → ℕ → ℕ → ℕ
-links_into net u n = tally (λ k. leads_to u (place net.places k)) n
+links_into net u n = count_by (leads_to u) (take n net.places)
 
 -- How many links lead to a node without a label. Each of them may still be offered, once.
 abbrev pub links_open : Net → (ℕ → Option ℕ) → ℕ
-links_open net d = tally (λ k. leads_on d (place net.places k)) (length net.places)
+links_open net d = count_by (leads_on d) net.places
 
 -- The entries hold the value w for the node u.
 abbrev pub Waiting : List Candidate → ℕ → ℕ → Type 0
-Waiting es w u = Has es (record { value = w; node = u })
+Waiting es w u = Contains es (record { value = w; node = u })
 
 -- What has become of a heap since `from` was settled, where of the links into it those from place b on
 -- have been offered.
@@ -101,7 +96,7 @@ pub record Searching (m : Scale) (r : ℕ → Option ℕ) (net : Net) (t : ℕ) 
 
 -- The entries hold the link k with n steps.
 abbrev pub Hopping : List Hop → ℕ → ℕ → Type 0
-Hopping es n k = Has es (record { steps = n; link = k })
+Hopping es n k = Contains es (record { steps = n; link = k })
 
 -- What has become of a heap since `from` got its steps, where of the links into it those from place b on
 -- have been offered.

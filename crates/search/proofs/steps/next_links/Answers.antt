@@ -5,7 +5,7 @@ use Rattle.heap.specs.Holds.{held}
 use Rattle.heap.proofs.Held.{heaped_none}
 use Rattle.frontier.specs.Progress.{leads_on, links_open}
 use Rattle.frontier.proofs.Offering.{read_holds, not_both_links}
-use Rattle.frontier.proofs.Tallies.{tally_few}
+use Rattle.std.proofs.lemmas.List.Sums.{count_by-le-length}
 use Rattle.frontier.proofs.Stored.{cleared, read_unset, read_set}
 use Rattle.frontier.proofs.Walking.{walking_start, walking_skip, walking_settle, walking_end, hop_holds, hop_short, hop_inside, count_less}
 use Rattle.search.proofs.steps.next_links.Goals as goal
@@ -14,7 +14,7 @@ pub count_node-requires : goal.count_node-requires
 count_node-requires g c =
     let net = g.N.Network.meaning c.args.network.now in
     let (none, long) = cleared _ _ (c.fill.ensures.after (λ o same. search rules)) in
-    let few : links_open net (place c.fill.new.self) ≤ length net.places = tally_few (λ k. leads_on (place c.fill.new.self) (place net.places k)) _ in
+    let few : links_open net (place c.fill.new.self) ≤ length net.places = count_by-le-length (leads_on (place c.fill.new.self)) net.places in
     let bare : length (held c.new-heap.result) ≡ 0 = ap length c.new-heap.ensures.none in
     record {
       indexed = c.requires.indexed;

@@ -4,7 +4,7 @@ use Rattle.definitions.specs.Networks.{place}
 use Rattle.heap.specs.Holds.{held}
 use Rattle.heap.proofs.Held.{heaped_none}
 use Rattle.frontier.specs.Progress.{leads_on, links_open}
-use Rattle.frontier.proofs.Tallies.{tally_few}
+use Rattle.std.proofs.lemmas.List.Sums.{count_by-le-length}
 use Rattle.frontier.proofs.Stored.{cleared, read_unset, read_set}
 use Rattle.frontier.proofs.Searching.{searching_start, searching_skip, searching_settle, searching_end, popped_inside, settle_less}
 use Rattle.search.proofs.values.best_values.Goals as goal
@@ -13,7 +13,7 @@ pub settle-requires : goal.settle-requires
 settle-requires g c =
     let net = g.N.Network.meaning c.args.network.now in
     let (none, long) = cleared _ _ (c.fill.ensures.after (λ o same. search rules)) in
-    let few : links_open net (place c.fill.new.self) ≤ length net.places = tally_few (λ k. leads_on (place c.fill.new.self) (place net.places k)) _ in
+    let few : links_open net (place c.fill.new.self) ≤ length net.places = count_by-le-length (leads_on (place c.fill.new.self)) net.places in
     let bare : length (held c.new-heap.result) ≡ 0 = ap length c.new-heap.ensures.none in
     record {
       indexed = c.requires.indexed;

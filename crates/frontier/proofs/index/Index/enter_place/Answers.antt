@@ -1,4 +1,4 @@
-use Rattle.std.proofs.Common.{◌+◌, length, set, sym, subst}
+use Rattle.std.proofs.Common.{◌+◌, set, sym, subst}
 use Rattle.frontier.specs.Progress.{Indexing}
 use Rattle.frontier.proofs.Indexing.{index_none, indexing_some}
 use Rattle.frontier.proofs.index.Index.enter_place.Goals as goal
