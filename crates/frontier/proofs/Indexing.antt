@@ -106,19 +106,14 @@ module _ (net : Net) where
       own = ap head_of h
 
   -- the same of the index as it stands in memory
-  pub indexing_some : Limits net → (index : Index) (k h : ℕ) (l : Link) (o : Option ℕ) → Holds net k l → h ≡ l.head → o ≡ place index.first h →
-      Indexing net index k → Indexing net (record { first = set index.first h (Some k); next = set index.next k o }) (k + 1)
-  indexing_some N index k h l o at e q (I, f, n) =
-      let lo = (N.sound k l at).1 in
-      let few = N.few_nodes in
-      let places = N.few_places in
-      let inside = holds_inside net k l at in (
-        subst (λ x. IndexedBelow net (place (set index.first h (Some k))) (place (set index.next k x)) (k + 1)) (sym q)
-            (subst (λ x. IndexedBelow net (place (set index.first x (Some k))) (place (set index.next k (place index.first x))) (k + 1)) (sym e)
-            (index_some index.first index.next k l at (omega arith) (omega arith) I)),
-        length-set index.first h (Some k) ∙ f,
-        length-set index.next k o ∙ n,
-      )
+  pub indexing_some : (index : Index) (k h : ℕ) (l : Link) (o v : Option ℕ) → Holds net k l → h ≡ l.head → o ≡ place index.first h → v ≡ Some k →
+      h < length index.first → k < length index.next →
+      Indexing net index k → Indexing net (record { first = set index.first h v; next = set index.next k o }) (k + 1)
+  indexing_some index k h l o v at e q r inf inn I =
+      subst (λ y. IndexedBelow net (place (set index.first h y)) (place (set index.next k o)) (k + 1)) (sym r)
+      (subst (λ x. IndexedBelow net (place (set index.first h (Some k))) (place (set index.next k x)) (k + 1)) (sym q)
+      (subst (λ x. IndexedBelow net (place (set index.first x (Some k))) (place (set index.next k (place index.first x))) (k + 1)) (sym e)
+      (index_some index.first index.next k l at (omega arith) inn I)))
 
   -- the index of a network serves each layer
   pub index_layer : (gone : ℕ → Bool) (first next : ℕ → Option ℕ) → Indexed net first next → Indexed (without gone net) first next

@@ -34,7 +34,7 @@ pub record IndexedBelow (net : Net) (first next : ℕ → Option ℕ) (n : ℕ) 
 
 -- The index while it is made: the places below n are entered.
 abbrev pub Indexing : Net → Index → ℕ → Type 0
-Indexing net index n = IndexedBelow net (place index.first) (place index.next) n × (length index.first ≡ 256) × (length index.next ≡ 1024)
+Indexing net index n = IndexedBelow net (place index.first) (place index.next) n
 
 -- The lowest number above the given place; 0 where there is none.
 abbrev pub above : Option ℕ → ℕ
