@@ -8,7 +8,7 @@ ghost use Rattle.search.specs.Answers.{Recovered};
 
 use crate::values::plain_values;
 use crate::workspace::Workspace;
-use frontier::lists::{at, fill};
+use frontier::lists::at;
 use measures::Measure;
 use networks::layers::AtRisk;
 use networks::network::Network;
@@ -48,7 +48,7 @@ pub fn recovery_values<N: Network, M: Measure>(
     if usize::from(t) >= network.node_count() {
         return false;
     }
-    fill(recoveries, None);
+    recoveries.fill(None);
     for k in 0..network.place_count() {
         recoveries[k] = recovery::<N, M>(network, t, k, workspace);
     }

@@ -14,7 +14,7 @@ use crate::values::link_value;
 use definitions::Link;
 use frontier::entries::{BySteps, Hop, Settled};
 use frontier::index::Index;
-use frontier::lists::{at, fill};
+use frontier::lists::at;
 use heap::Heap;
 use measures::Measure;
 use networks::network::Network;
@@ -87,13 +87,10 @@ fn offer_hops<N: Network, M: Measure>(
     requires room { length (held heap.old) + links_into (N.Network.meaning network.now) from.node (length (N.Network.meaning network.now).places) ≤ capacity heap.old }
     ensures { HopOffering (given M.Measure.scale (place recoveries.now)) (N.Network.meaning network.now) (place values.now) (place steps.now) from heap.old heap.new 0 }
 {
-    let mut cursor = at(&index.first, usize::from(from.node));
-    while let Some(link) = cursor {
-        let k = usize::from(link);
+    for k in index.links_into(from.node) {
         if let Some(hop) = offer_hop::<N, M>(network, recoveries, values, steps, from, k) {
             let _ = heap.push::<BySteps>(hop);
         }
-        cursor = at(&index.next, k);
     }
 }
 
@@ -143,8 +140,8 @@ pub(crate) fn next_links<N: Network, M: Measure>(
     ensures nexts { Nexts (given M.Measure.scale (place recoveries.now)) (N.Network.meaning network.now) t (place steps.new) (place nexts.new) }
     ensures idle { NoNext t (place steps.new) (place nexts.new) }
 {
-    fill(steps, None);
-    fill(nexts, None);
+    steps.fill(None);
+    nexts.fill(None);
     let mut heap = Heap::new(entries);
     count_node::<N, M>(
         network,

@@ -9,7 +9,6 @@ use crate::values::best_values;
 pub use crate::values::plain_values;
 pub use crate::workspace::Workspace;
 use frontier::index::index_links;
-use frontier::lists::fill;
 use measures::Measure;
 use networks::network::Network;
 
@@ -49,7 +48,7 @@ pub fn plain_tables<N: Network, M: Measure>(
         return false;
     }
     index_links(network, &mut workspace.index);
-    fill(&mut workspace.starts, Some(M::starting()));
+    workspace.starts.fill(Some(M::starting()));
     best_values::<N, M>(
         network,
         &workspace.index,

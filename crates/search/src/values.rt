@@ -13,7 +13,7 @@ ghost use Rattle.frontier.specs.Progress.{Offering, links_into, links_open};
 use crate::workspace::Workspace;
 use frontier::entries::{ByValue, Candidate};
 use frontier::index::{Index, index_links};
-use frontier::lists::{at, fill};
+use frontier::lists::at;
 use heap::Heap;
 use measures::Measure;
 use networks::network::Network;
@@ -77,13 +77,10 @@ fn offer_links<N: Network, M: Measure>(
     requires room { length (held heap.old) + links_into (N.Network.meaning network.now) from.node (length (N.Network.meaning network.now).places) ≤ capacity heap.old }
     ensures { Offering M.Measure.scale (place recoveries.now) (N.Network.meaning network.now) (place values.now) from heap.old heap.new 0 }
 {
-    let mut cursor = at(&index.first, usize::from(from.node));
-    while let Some(link) = cursor {
-        let k = usize::from(link);
+    for k in index.links_into(from.node) {
         if let Some(entry) = offer::<N, M>(network, recoveries, values, from, k) {
             let _ = heap.push::<ByValue<M>>(entry);
         }
-        cursor = at(&index.next, k);
     }
 }
 
@@ -126,7 +123,7 @@ pub(crate) fn best_values<N: Network, M: Measure>(
     requires room { length (N.Network.meaning network.now).places ≤ length entries.old }
     ensures { Labels (given M.Measure.scale (place recoveries.now)) (N.Network.meaning network.now) t (place values.new) }
 {
-    fill(values, None);
+    values.fill(None);
     let mut heap = Heap::new(entries);
     let start = Candidate {
         value: M::starting(),
@@ -153,7 +150,7 @@ pub fn plain_values<N: Network, M: Measure>(
         return false;
     }
     index_links(network, &mut workspace.index);
-    fill(&mut workspace.starts, Some(M::starting()));
+    workspace.starts.fill(Some(M::starting()));
     best_values::<N, M>(
         network,
         &workspace.index,

@@ -1,4 +1,4 @@
-use Rattle.std.proofs.Common.{◌∙◌, arith, length-set}
+use Rattle.std.proofs.Common.{rules, ◌∙◌, arith, length-set}
 use Rattle.frontier.proofs.Offering.{holds_inside}
 use Rattle.frontier.proofs.Stored.{cleared}
 use Rattle.frontier.proofs.Worsts.{recovered_more, empty_more}
@@ -6,7 +6,7 @@ use Rattle.search.proofs.recoveries.recovery_values.Goals as goal
 
 pub loop-k-init : goal.loop-k-init
 loop-k-init g c =
-    let (none, long) = cleared _ _ c.fill.ensures in
+    let (none, long) = cleared _ _ (c.fill.ensures.after (λ o same. search rules)) in
     ((λ j i lt h. absurd (omega arith)), (λ j e. none j), omega arith)
 
 pub loop-k-preserved : goal.loop-k-preserved

@@ -1,11 +1,11 @@
-use Rattle.std.proofs.Common.{◌≡◌, ◌≤◌, length, sym, ap, ◌∙◌, arith}
+use Rattle.std.proofs.Common.{rules, ◌≡◌, ◌≤◌, length, sym, ap, ◌∙◌, arith}
 use Rattle.std.proofs.lemmas.List.Sorted.{length_permutation}
 use Rattle.definitions.specs.Networks.{place, Holds}
 use Rattle.heap.specs.Holds.{held}
 use Rattle.heap.proofs.Held.{heaped_none}
 use Rattle.frontier.specs.Progress.{leads_on, links_open}
 use Rattle.frontier.proofs.Offering.{read_holds, not_both_links}
-use Rattle.frontier.proofs.Tallies.{tally_few}
+use Rattle.std.proofs.lemmas.List.Sums.{count_by-le-length}
 use Rattle.frontier.proofs.Stored.{cleared, read_unset, read_set}
 use Rattle.frontier.proofs.Walking.{walking_start, walking_skip, walking_settle, walking_end, hop_holds, hop_short, hop_inside, count_less}
 use Rattle.search.proofs.steps.next_links.Goals as goal
@@ -13,8 +13,8 @@ use Rattle.search.proofs.steps.next_links.Goals as goal
 pub count_node-requires : goal.count_node-requires
 count_node-requires g c =
     let net = g.N.Network.meaning c.args.network.now in
-    let (none, long) = cleared _ _ c.fill.ensures in
-    let few : links_open net (place c.fill.new.list) ≤ length net.places = tally_few (λ k. leads_on (place c.fill.new.list) (place net.places k)) _ in
+    let (none, long) = cleared _ _ (c.fill.ensures.after (λ o same. search rules)) in
+    let few : links_open net (place c.fill.new.self) ≤ length net.places = count_by-le-length (leads_on (place c.fill.new.self)) net.places in
     let bare : length (held c.new-heap.result) ≡ 0 = ap length c.new-heap.ensures.none in
     record {
       indexed = c.requires.indexed;
@@ -28,9 +28,9 @@ count_node-requires g c =
 
 pub loop-hop-init : goal.loop-hop-init
 loop-hop-init g c =
-    let (none, long) = cleared _ _ c.fill.ensures in
-    let (none2, long2) = cleared _ _ c.fill-2.ensures in
-    walking_start _ _ (g.N.Network.limits c.args.network.now) c.args.t _ c.requires.labels c.fill.new.list c.fill-2.new.list c.new-heap.result c.count_node.new.heap
+    let (none, long) = cleared _ _ (c.fill.ensures.after (λ o same. search rules)) in
+    let (none2, long2) = cleared _ _ (c.fill-2.ensures.after (λ o same. search rules)) in
+    walking_start _ _ (g.N.Network.limits c.args.network.now) c.args.t _ c.requires.labels c.fill.new.self c.fill-2.new.self c.new-heap.result c.count_node.new.heap
     none none2 (omega arith) (omega arith) (omega arith) c.new-heap.ensures.none (omega arith) _ c.count_node.ensures.settled c.count_node.ensures.offered
 
 pub loop-hop-smaller-in_default-place : goal.loop-hop-smaller-in_default-place

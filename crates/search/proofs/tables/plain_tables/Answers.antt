@@ -1,4 +1,4 @@
-use Rattle.std.proofs.Common.{arith}
+use Rattle.std.proofs.Common.{rules, arith}
 use Rattle.frontier.proofs.Plains.{starts_fitting, plain_found, plain_best, plain_next}
 use Rattle.search.proofs.tables.plain_tables.Goals as goal
 
@@ -7,7 +7,7 @@ best_values-requires g c =
     let few = g.N.Network.limits c.args.network.now in
     record {
       indexed = c.index_links.ensures;
-      fitting = starts_fitting g.M.Measure.scale g.met.M.Measure.lawful (g.N.Network.meaning c.args.network.now) few c.args.t c.fill.new.list _ _ c.fill.ensures c.starting.ensures (omega arith);
+      fitting = starts_fitting g.M.Measure.scale g.met.M.Measure.lawful (g.N.Network.meaning c.args.network.now) few c.args.t c.fill.new.self _ _ (c.fill.ensures.after (λ o same. search rules)) c.starting.ensures (omega arith);
       inside = omega arith;
       nodes = omega arith;
       room = omega arith;
@@ -18,7 +18,7 @@ next_links-requires g c =
     let few = g.N.Network.limits c.args.network.now in
     record {
       indexed = c.index_links.ensures;
-      fitting = starts_fitting g.M.Measure.scale g.met.M.Measure.lawful (g.N.Network.meaning c.args.network.now) few c.args.t c.fill.new.list _ _ c.fill.ensures c.starting.ensures (omega arith);
+      fitting = starts_fitting g.M.Measure.scale g.met.M.Measure.lawful (g.N.Network.meaning c.args.network.now) few c.args.t c.fill.new.self _ _ (c.fill.ensures.after (λ o same. search rules)) c.starting.ensures (omega arith);
       labels = c.best_values.ensures;
       inside = omega arith;
       nodes = omega arith;
@@ -34,8 +34,8 @@ returns g c =
     let few = g.N.Network.limits c.args.network.now in
     record {
       inside = omega arith;
-      best = plain_best m M net few c.args.t c.fill.new.list _ _ c.fill.ensures c.starting.ensures (omega arith) _ c.best_values.ensures;
-      labels = plain_found m M net few c.args.t c.fill.new.list _ _ c.fill.ensures c.starting.ensures (omega arith) _ c.best_values.ensures;
-      nexts = plain_next m M net few c.args.t c.fill.new.list _ _ c.fill.ensures c.starting.ensures (omega arith) _ c.best_values.ensures _ _ c.next_links.ensures.nexts;
+      best = plain_best m M net few c.args.t c.fill.new.self _ _ (c.fill.ensures.after (λ o same. search rules)) c.starting.ensures (omega arith) _ c.best_values.ensures;
+      labels = plain_found m M net few c.args.t c.fill.new.self _ _ (c.fill.ensures.after (λ o same. search rules)) c.starting.ensures (omega arith) _ c.best_values.ensures;
+      nexts = plain_next m M net few c.args.t c.fill.new.self _ _ (c.fill.ensures.after (λ o same. search rules)) c.starting.ensures (omega arith) _ c.best_values.ensures _ _ c.next_links.ensures.nexts;
       idle = c.next_links.ensures.idle;
     }

@@ -1,10 +1,10 @@
-use Rattle.std.proofs.Common.{◌≡◌, ◌≤◌, length, ap, arith}
+use Rattle.std.proofs.Common.{rules, ◌≡◌, ◌≤◌, length, ap, arith}
 use Rattle.std.proofs.lemmas.List.Sorted.{length_permutation}
 use Rattle.definitions.specs.Networks.{place}
 use Rattle.heap.specs.Holds.{held}
 use Rattle.heap.proofs.Held.{heaped_none}
 use Rattle.frontier.specs.Progress.{leads_on, links_open}
-use Rattle.frontier.proofs.Tallies.{tally_few}
+use Rattle.std.proofs.lemmas.List.Sums.{count_by-le-length}
 use Rattle.frontier.proofs.Stored.{cleared, read_unset, read_set}
 use Rattle.frontier.proofs.Searching.{searching_start, searching_skip, searching_settle, searching_end, popped_inside, settle_less}
 use Rattle.search.proofs.values.best_values.Goals as goal
@@ -12,8 +12,8 @@ use Rattle.search.proofs.values.best_values.Goals as goal
 pub settle-requires : goal.settle-requires
 settle-requires g c =
     let net = g.N.Network.meaning c.args.network.now in
-    let (none, long) = cleared _ _ c.fill.ensures in
-    let few : links_open net (place c.fill.new.list) ≤ length net.places = tally_few (λ k. leads_on (place c.fill.new.list) (place net.places k)) _ in
+    let (none, long) = cleared _ _ (c.fill.ensures.after (λ o same. search rules)) in
+    let few : links_open net (place c.fill.new.self) ≤ length net.places = count_by-le-length (leads_on (place c.fill.new.self)) net.places in
     let bare : length (held c.new-heap.result) ≡ 0 = ap length c.new-heap.ensures.none in
     record {
       indexed = c.requires.indexed;
@@ -26,8 +26,8 @@ settle-requires g c =
 
 pub loop-next-init : goal.loop-next-init
 loop-next-init g c =
-    let (none, long) = cleared _ _ c.fill.ensures in
-    searching_start _ g.met.M.Measure.lawful _ _ c.requires.fitting (g.N.Network.limits c.args.network.now) c.args.t c.fill.new.list c.new-heap.result c.settle.new.heap
+    let (none, long) = cleared _ _ (c.fill.ensures.after (λ o same. search rules)) in
+    searching_start _ g.met.M.Measure.lawful _ _ c.requires.fitting (g.N.Network.limits c.args.network.now) c.args.t c.fill.new.self c.new-heap.result c.settle.new.heap
     none (omega arith) (omega arith) c.new-heap.ensures.none (omega arith) c.starting.result c.starting.ensures _ c.settle.ensures.settled c.settle.ensures.offered
 
 pub settle-requires-then-is_none : goal.settle-requires-then-is_none
