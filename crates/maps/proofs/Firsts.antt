@@ -6,7 +6,7 @@ use Rattle.std.proofs.lemmas.Bool.{cases_eq, cases_lt}
 use Rattle.std.proofs.lemmas.List.FromFn.{length-map-range_with_len, get_or-map-range_with_len}
 use Rattle.std.proofs.lemmas.List.{get_or_past}
 use Rattle.networks.specs.declared.draft.DraftFault.{DraftFault}
-use Rattle.definitions.specs.Networks.{AllSound, Sound}
+use Rattle.definitions.specs.Networks.{AllSound, Sound, place}
 use Rattle.networks.specs.Drafts.{answered}
 use Rattle.maps.specs.Maps.{be32, node_count, link_count, link_at, mapped}
 use Rattle.maps.specs.Checks.{or_else, first, as_map_fault, link_fault, size_fault, map_fault}
@@ -44,20 +44,25 @@ sizes_right bs e = grind (arith, nat_tests)
 be32_fits : (bs : List ℕ) → ((i : ℕ) → get_or bs i 0 < 256) → (at : ℕ) → be32 bs at < 2 ^ 32
 be32_fits bs fits at = omega (arith, fits at, fits (at + 1), fits (at + 2), fits (at + 2 + 1))
 
--- Bytes with no fault are well formed.
-pub well_formed : (bs : List ℕ) → ((i : ℕ) → get_or bs i 0 < 256) → map_fault bs ≡ None → AllSound (mapped bs)
-well_formed bs fits e k l h =
+-- What a place of the network of a map holds.
+pub place_within : (bs : List ℕ) (k : ℕ) → k < link_count bs → place (mapped bs).places k ≡ Some (link_at bs (link_count bs) k)
+place_within bs k h = get_or-map-range_with_len (λ j. Some (link_at bs (link_count bs) j)) 0 (link_count bs) k k None h (omega arith)
+
+pub place_past : (bs : List ℕ) (k : ℕ) → link_count bs ≤ k → place (mapped bs).places k ≡ None
+place_past bs k h = get_or_past (mapped bs).places k None (rw length-map-range_with_len h)
+
+-- Links without a fault are sound.
+pub well_formed : (bs : List ℕ) → ((i : ℕ) → get_or bs i 0 < 256) → first (link_fault bs) 0 (link_count bs) ≡ None → AllSound (mapped bs)
+well_formed bs fits links k l h =
     let m = link_count bs in
-    let links : first (link_fault bs) 0 m ≡ None = (or_else_none (size_fault bs) _ e).1 in
     elim (cases_lt k m) [
       | inl within ↦
-          let here : Some (link_at bs m k) ≡ Some l = sym (get_or-map-range_with_len (λ j. Some (link_at bs m j)) 0 m k k None within (omega arith)) ∙ h in
+          let here : Some (link_at bs m k) ≡ Some l = sym (place_within bs k within) ∙ h in
           let same : link_at bs m k ≡ l = cc in
           let none = as_none _ (first_none (link_fault bs) 0 m links k (omega arith) (omega arith)) in
           subst (Sound (node_count bs)) same (sound_unless (node_count bs) k (link_at bs m k) none (be32_fits bs fits _) (be32_fits bs fits _)).1
       | inr past ↦
-          let long : length (mapped bs).places ≤ k = rw length-map-range_with_len past in
-          let none : None ≡ Some l = sym (get_or_past (mapped bs).places k None long) ∙ h in
+          let none : None ≡ Some l = sym (place_past bs k past) ∙ h in
           let z : ◌≡◌ {A = ℕ} 0 1 = cc in absurd (omega arith)
     ]
 

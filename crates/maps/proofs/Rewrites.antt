@@ -126,9 +126,8 @@ by_room bs old new false (Ok len) test none r wrote same =
     (ap (λ o. or_else o (cond (ltb (length old) (length bs)) (Some (SmallBuffer (length bs))) None)) none ∙ ap (λ b. cond b (Some (SmallBuffer (length bs))) None) (sym test), len_is, wrote ∙ ap (λ xs. xs ++ drop len old) same)
 by_room bs old new false (Err f) test none r wrote same = let z : ◌≡◌ {A = ℕ} 0 1 = cc in absurd (omega arith)
 
-pub rewritten_from : (bs old new : List ℕ) (net : Net) (r : Result ℕ MapFault) → ((i : ℕ) → get_or bs i 0 < 256) → map_fault bs ≡ None → net ≡ opened bs → r ≡ writable net (length old) → new ≡ written net old r → Rewritten bs old new r
-rewritten_from bs old new net r fits none shown value bytes =
-    let is : net ≡ mapped bs = shown ∙ ap (λ o. unless o (mapped bs)) none in
+pub rewritten_from : (bs old new : List ℕ) (net : Net) (r : Result ℕ MapFault) → ((i : ℕ) → get_or bs i 0 < 256) → map_fault bs ≡ None → net ≡ mapped bs → r ≡ writable net (length old) → new ≡ written net old r → Rewritten bs old new r
+rewritten_from bs old new net r fits none is value bytes =
     let long = (sizes_right bs (no_size_fault bs none)).2 in
     by_room bs old new (ltb (length old) (length bs)) r refl none
     (value ∙ ap (λ x. writable x (length old)) is ∙ writable_map bs (length old) none)

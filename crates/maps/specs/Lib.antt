@@ -3,3 +3,4 @@ pub mod Maps
 pub mod Checks
 pub mod Reads
 pub mod Writes
+pub mod Opened

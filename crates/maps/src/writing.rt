@@ -127,6 +127,6 @@ pub fn write<N: Network>(network: &N, out: &mut [u8]) -> Result<usize, MapFault>
 pub fn rewrite(bytes: &[u8], out: &mut [u8]) -> Result<usize, MapFault>
     ensures { Rewritten bytes.now out.old out.new result }
 {
-    Map::check(bytes)?;
-    write(&Map::open(bytes), out)
+    let map = Map::try_from(bytes)?;
+    write(&map, out)
 }
