@@ -1,14 +1,15 @@
 -- The first fault of a row: one step of the search, and what it means that there is none.
-use Rattle.std.proofs.Common.{◌≡◌, ℕ, zero, suc, ◌+◌, ◌-◌, ◌*◌, ◌^◌, ◌<◌, ◌≤◌, true, false, List, length, get_or, is_err, Some, None, Option, Result, sym, refl, ap, ◌∙◌, subst, inl, inr, arith}
+use Rattle.std.proofs.Common.{◌≡◌, ℕ, zero, suc, ◌+◌, ◌-◌, ◌*◌, ◌^◌, ◌<◌, ◌≤◌, true, false, List, length, get_or, take, drop, is_err, Some, None, Option, Result, sym, refl, ap, ◌∙◌, subst, inl, inr, arith}
 use Rattle.maps.specs.declared.fault.MapFault.{MapFault}
 use Rattle.std.proofs.lemmas.Bool.Decides.{nat_tests}
 use Rattle.std.proofs.lemmas.Bool.{cases_eq, cases_lt}
 use Rattle.std.proofs.lemmas.List.FromFn.{length-map-range_with_len, get_or-map-range_with_len}
-use Rattle.std.proofs.lemmas.List.{get_or_past}
+use Rattle.std.specs.Int.{w32}
+use Rattle.std.proofs.lemmas.List.{get_or_past, get_or-take, get_or-drop, length-take}
 use Rattle.networks.specs.declared.draft.DraftFault.{DraftFault}
 use Rattle.definitions.specs.Networks.{AllSound, Sound, place}
 use Rattle.networks.specs.Drafts.{answered}
-use Rattle.maps.specs.Maps.{be32, node_count, link_count, link_at, mapped}
+use Rattle.maps.specs.Maps.{number_at, node_count, link_count, link_at, mapped}
 use Rattle.maps.specs.Checks.{or_else, first, as_map_fault, link_fault, size_fault, map_fault}
 use Rattle.networks.proofs.Tables.{sound_unless}
 
@@ -41,8 +42,15 @@ as_none (Some f) e = let z : ◌≡◌ {A = ℕ} 0 1 = cc in absurd (omega arith
 pub sizes_right : (bs : List ℕ) → size_fault bs ≡ None → (node_count bs ≤ 256) × (link_count bs ≤ 1024) × (length bs ≡ 4 + 12 * link_count bs)
 sizes_right bs e = grind (arith, nat_tests)
 
-be32_fits : (bs : List ℕ) → ((i : ℕ) → get_or bs i 0 < 256) → (at : ℕ) → be32 bs at < 2 ^ 32
-be32_fits bs fits at = omega (arith, fits at, fits (at + 1), fits (at + 2), fits (at + 2 + 1))
+-- Part of a list of bytes is bytes.
+pub part_fits : (bs : List ℕ) → ((i : ℕ) → get_or bs i 0 < 256) → (n at : ℕ) → (i : ℕ) → get_or (take n (drop at bs)) i 0 < 256
+part_fits bs fits n at i = elim (cases_lt i n) [
+  | inl within ↦ rw (get_or-take n (drop at bs) i 0 within, get_or-drop at bs i 0) (fits (at + i))
+  | inr past ↦ rw (get_or_past (take n (drop at bs)) i 0 (omega (arith, length-take n (drop at bs)))) (omega arith)
+]
+
+number_fits : (bs : List ℕ) → ((i : ℕ) → get_or bs i 0 < 256) → (at : ℕ) → number_at w32 bs at < 2 ^ 32
+number_fits bs fits at = let part = part_fits bs fits 4 at in omega (arith, part 0, part 1, part 2, part 3)
 
 -- What a place of the network of a map holds.
 pub place_within : (bs : List ℕ) (k : ℕ) → k < link_count bs → place (mapped bs).places k ≡ Some (link_at bs (link_count bs) k)
@@ -60,7 +68,7 @@ well_formed bs fits links k l h =
           let here : Some (link_at bs m k) ≡ Some l = sym (place_within bs k within) ∙ h in
           let same : link_at bs m k ≡ l = cc in
           let none = as_none _ (first_none (link_fault bs) 0 m links k (omega arith) (omega arith)) in
-          subst (Sound (node_count bs)) same (sound_unless (node_count bs) k (link_at bs m k) none (be32_fits bs fits _) (be32_fits bs fits _)).1
+          subst (Sound (node_count bs)) same (sound_unless (node_count bs) k (link_at bs m k) none (number_fits bs fits _) (number_fits bs fits _)).1
       | inr past ↦
           let none : None ≡ Some l = sym (place_past bs k past) ∙ h in
           let z : ◌≡◌ {A = ℕ} 0 1 = cc in absurd (omega arith)

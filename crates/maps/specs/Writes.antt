@@ -1,5 +1,6 @@
 -- The bytes of a network's map, and what writing them answers.
 use Rattle.std.specs.Prelude.{◌≡◌, ℕ, ◌+◌, ◌*◌, ◌/◌, ◌%◌, cond, List, [], ◌∷◌, ◌++◌, length, take, drop, Some, None, Ok, Err, Option, Result, ◌==◌, nat_lt}
+use Rattle.std.specs.Int.{w16, w32, to_be_bytes}
 use Rattle.std.specs.List.{flat_map}
 use Rattle.definitions.specs.declared.Link.{Link}
 use Rattle.maps.specs.declared.fault.MapFault.{MapFault}
@@ -8,37 +9,28 @@ use Rattle.definitions.specs.Networks.{Net}
 use Rattle.maps.specs.Faults.{byte_of}
 use Rattle.maps.specs.Checks.{or_else, map_fault, opened}
 
--- A number in two bytes and in four, the high byte first.
-abbrev pub bytes16 : ℕ → List ℕ
-bytes16 n = n / 256 % 256 ∷ n % 256 ∷ []
-
-abbrev pub bytes32 : ℕ → List ℕ
-bytes32 n = n / 16777216 % 256 ∷ n / 65536 % 256 ∷ n / 256 % 256 ∷ n % 256 ∷ []
-
--- A link's entries in the two arrays of a map.
+-- A link's entries in the two arrays of a map. All numbers have the high byte first.
 abbrev pub ends : Link → List ℕ
-ends l = bytes16 l.tail ++ bytes16 l.head
+ends l = to_be_bytes w16 l.tail ++ to_be_bytes w16 l.head
 
 abbrev pub attributes : Link → List ℕ
-attributes l = bytes32 l.figure ++ bytes32 l.groups
+attributes l = to_be_bytes w32 l.figure ++ to_be_bytes w32 l.groups
 
 -- The link of a place; an empty one, which no map has, counts as zeros.
 abbrev pub link_of : Option Link → Link
 link_of (Some l) = l
 link_of None = record { tail = 0; head = 0; figure = 0; groups = 0 }
 
-abbrev pub ends_in : Option Link → List ℕ
-ends_in p = ends (link_of p)
-
-abbrev pub attributes_in : Option Link → List ℕ
-attributes_in p = attributes (link_of p)
+-- An array of a map: the entry of each place's link, one behind the other.
+abbrev pub entries : (Link → List ℕ) → List (Option Link) → List ℕ
+entries entry ps = flat_map (λ p. entry (link_of p)) ps
 
 -- The map of a network: node count, link count, then the two arrays.
 abbrev pub sizes : Net → List ℕ
-sizes n = bytes16 n.nodes ++ bytes16 (length n.places)
+sizes n = to_be_bytes w16 n.nodes ++ to_be_bytes w16 (length n.places)
 
 abbrev pub map_bytes : Net → List ℕ
-map_bytes n = sizes n ++ (flat_map ends_in n.places ++ flat_map attributes_in n.places)
+map_bytes n = sizes n ++ (entries ends n.places ++ entries attributes n.places)
 
 abbrev pub map_length : Net → ℕ
 map_length n = 4 + 12 * length n.places

@@ -1,7 +1,7 @@
 // Maps read in their own bytes.
-ghost use Rattle.std.specs.Prelude.{◌≡◌, ◌+◌, ◌*◌, ◌<◌, ◌≤◌, length};
+ghost use Rattle.std.specs.Prelude.{◌≡◌, ◌+◌, ◌*◌, ◌<◌, ◌≤◌, length, take, drop};
 ghost use Rattle.definitions.specs.Networks.{AllSound};
-ghost use Rattle.maps.specs.Maps.{be16, be32, node_count, link_count, link_at, mapped};
+ghost use Rattle.maps.specs.Maps.{node_count, link_count, link_at, mapped};
 ghost use Rattle.networks.specs.Drafts.{answered};
 ghost use Rattle.maps.specs.Checks.{link_fault, first, map_fault, opened};
 ghost use Rattle.maps.specs.Reads.{mapped_limits};
@@ -27,33 +27,27 @@ pub struct Map<'a> {
     ghost sound: { AllSound (mapped framed.bytes.now) },
 }
 
-// The number in two bytes, the high byte first.
-fn read16(bytes: &[u8], at: usize) -> u16
-    requires { at + 1 < length bytes.now }
-    ensures { result ≡ be16 bytes.now at }
+// The W bytes from `at` on.
+fn bytes_at<const W: usize>(bytes: &[u8], at: usize) -> [u8; W]
+    requires { at + W ≤ length bytes.now }
+    ensures { result ≡ take W (drop at bytes.now) }
 {
-    u16::from(bytes[at]) * 256 + u16::from(bytes[at + 1])
-}
-
-// The number in four bytes, the high byte first.
-fn read32(bytes: &[u8], at: usize) -> u32
-    requires { at + 3 < length bytes.now }
-    ensures { result ≡ be32 bytes.now at }
-{
-    u32::from(read16(bytes, at)) * 65536 + u32::from(read16(bytes, at + 2))
+    let mut part = [0; W];
+    part.copy_from_slice(&bytes[at..at + W]);
+    part
 }
 
 impl<'a> Framed<'a> {
     fn node_count(&self) -> usize
         ensures { result ≡ node_count self.now.bytes.now }
     {
-        usize::from(read16(self.bytes, 0))
+        usize::from(u16::from_be_bytes(bytes_at(self.bytes, 0)))
     }
 
     fn link_count(&self) -> usize
         ensures { result ≡ link_count self.now.bytes.now }
     {
-        usize::from(read16(self.bytes, 2))
+        usize::from(u16::from_be_bytes(bytes_at(self.bytes, 2)))
     }
 
     fn link(&self, k: usize) -> Link
@@ -63,10 +57,10 @@ impl<'a> Framed<'a> {
         let ends = 4 + 4 * k;
         let attributes = 4 + 4 * self.link_count() + 8 * k;
         Link {
-            tail: read16(self.bytes, ends),
-            head: read16(self.bytes, ends + 2),
-            figure: read32(self.bytes, attributes),
-            groups: read32(self.bytes, attributes + 4),
+            tail: u16::from_be_bytes(bytes_at(self.bytes, ends)),
+            head: u16::from_be_bytes(bytes_at(self.bytes, ends + 2)),
+            figure: u32::from_be_bytes(bytes_at(self.bytes, attributes)),
+            groups: u32::from_be_bytes(bytes_at(self.bytes, attributes + 4)),
         }
     }
 
@@ -103,11 +97,11 @@ impl<'a> TryFrom<&'a [u8]> for Framed<'a> {
         if len < 4 {
             return Err(MapFault::TooShort(len));
         }
-        let nodes = usize::from(read16(bytes, 0));
+        let nodes = usize::from(u16::from_be_bytes(bytes_at(bytes, 0)));
         if nodes == 0 || nodes > 256 {
             return Err(MapFault::Nodes(nodes));
         }
-        let count = usize::from(read16(bytes, 2));
+        let count = usize::from(u16::from_be_bytes(bytes_at(bytes, 2)));
         if count > 1024 {
             return Err(MapFault::Links(count));
         }
