@@ -33,12 +33,13 @@ module _ (entry : Link → List ℕ) (c : ℕ) (each : (l : Link) → length (en
       ∙ drop_entries k ps (omega arith)
 
   -- One more entry behind those of the first k places.
-  pub paste_entry : (ps : List (Option Link)) (d e e' bytes : List ℕ) (at k : ℕ) (l : Link) → k < length ps → at ≤ length d → e ≡ paste d at (entries entry (take k ps)) (c * k) → Some l ≡ get_or ps k None → bytes ≡ entry l → e' ≡ paste e (at + c * k) bytes (length bytes) → e' ≡ paste d at (entries entry (take (k + 1) ps)) (c * (k + 1))
-  paste_entry ps d e e' bytes at k l h fits before here made wrote =
+  pub paste_entry : (ps : List (Option Link)) (d e e' e'' bytes : List ℕ) (at k : ℕ) (l : Link) → k < length ps → at ≤ length d → e ≡ paste d at (entries entry (take k ps)) (c * k) → Some l ≡ get_or ps k None → bytes ≡ entry l → e' ≡ paste e (at + c * k) bytes (length bytes) → e'' ≡ e' → e'' ≡ paste d at (entries entry (take (k + 1) ps)) (c * (k + 1))
+  paste_entry ps d e e' e'' bytes at k l h fits before here made wrote same =
       let f : Option Link → List ℕ = λ p. entry (link_of p) in
       let long : c * k ≡ length (entries entry (take k ps)) = ap (λ n. c * n) (sym (length-take-le k ps (omega arith))) ∙ sym (length_entries (take k ps)) in
       let size : c * k + length bytes ≡ c * (k + 1) = omega (arith, mul-suc c k, each l, ap length made) in
-      paste_two d e e' (entries entry (take k ps)) bytes at _ (c * k) (length bytes) before wrote refl long refl fits
+      same
+      ∙ paste_two d e e' (entries entry (take k ps)) bytes at _ (c * k) (length bytes) before wrote refl long refl fits
       ∙ ap (λ s. paste d at s (c * k + length bytes)) (ap (λ b. entries entry (take k ps) ++ b) (made ∙ ap f here) ∙ flat_map_more f [] (take k ps) (get_or ps k None) ∙ ap (flat_map f) (sym (take_more ps k None h)))
       ∙ ap (paste d at (entries entry (take (k + 1) ps))) size
 

@@ -1,5 +1,5 @@
 -- A map read and written again is the same bytes.
-use Rattle.std.proofs.Common.{◌≡◌, ℕ, zero, suc, ◌+◌, ◌*◌, ◌/◌, ◌%◌, ◌<◌, ◌≤◌, Bool, true, false, cond, eqb, ltb, List, [], ◌∷◌, ◌++◌, map, length, get_or, take, drop, Some, None, Ok, Err, Option, Result, sym, refl, ap, ◌∙◌, mul-zero, mul-suc, arith, take-append-drop, take-add}
+use Rattle.std.proofs.Common.{◌≡◌, ℕ, zero, suc, ◌+◌, ◌*◌, ◌/◌, ◌%◌, ◌<◌, ◌≤◌, Bool, true, false, cond, not, eqb, ltb, List, [], ◌∷◌, ◌++◌, map, length, get_or, take, drop, is_some, Some, None, Ok, Err, Option, Result, sym, refl, ap, ◌∙◌, mul-zero, mul-suc, arith, take-append-drop, take-add}
 use Rattle.std.specs.Int.{w16, w32, to_be_bytes}
 use Rattle.std.specs.List.{range_with_len, flat_map}
 use Rattle.std.proofs.lemmas.Bool.Decides.{nat_tests}
@@ -9,11 +9,12 @@ use Rattle.std.proofs.lemmas.Nat.{be_bytes_2, be_bytes_4}
 use Rattle.definitions.specs.declared.Link.{Link}
 use Rattle.maps.specs.declared.fault.MapFault.{MapFault}
 use Rattle.maps.specs.declared.fault.MapFault.TheVariants.{Nodes, SmallBuffer}
-use Rattle.definitions.specs.Networks.{Net}
+use Rattle.definitions.specs.Networks.{Net, place}
 use Rattle.maps.specs.Maps.{number_at, node_count, link_count, link_at, mapped}
 use Rattle.maps.specs.Checks.{or_else, size_fault, map_fault, unless, opened}
 use Rattle.maps.specs.Writes.{ends, attributes, link_of, entries, sizes, map_bytes, map_length, first_empty, unless_empty, writable, written, Rewritten}
-use Rattle.maps.proofs.Firsts.{sizes_right, no_size_fault, part_fits}
+use Rattle.maps.proofs.Firsts.{sizes_right, no_size_fault, part_fits, place_within}
+use Rattle.maps.proofs.Empties.{nothing_found}
 
 module _ (bs : List ℕ) (fits : (i : ℕ) → get_or bs i 0 < 256) where
   -- What is read at i, written again.
@@ -47,9 +48,11 @@ entries_from f c g bs base m each a (suc n) h =
     ∙ sym (take-add c (c * n) (drop (base + c * a) bs))
     ∙ ap (λ k. take k (drop (base + c * a) bs)) size
 
-none_empty : (g : ℕ → Link) (j : ℕ) (xs : List ℕ) → first_empty j (map (λ k. Some (g k)) xs) ≡ None
-none_empty g j [] = refl
-none_empty g j (x ∷ xs) = none_empty g (j + 1) xs
+none_empty : (bs : List ℕ) → first_empty (mapped bs).places ≡ None
+none_empty bs =
+    let ps = (mapped bs).places in
+    let count = length-map-range_with_len (λ k. Some (link_at bs (link_count bs) k)) 0 (link_count bs) in
+    nothing_found (λ k. not (is_some (place ps k))) 0 (length ps) (λ k low high. ap (λ p. not (is_some p)) (place_within bs k (omega (arith, count))))
 
 module _ (bs : List ℕ) (fits : (i : ℕ) → get_or bs i 0 < 256) (long : length bs ≡ 4 + 12 * link_count bs) where
   -- A map's bytes are those that its network is written as.
@@ -81,8 +84,8 @@ writable_map bs room none =
     let size = no_size_fault bs none in
     let need : map_length (mapped bs) ≡ length bs = omega (arith, count, (sizes_right bs size).2) in
     let answer : ℕ → Result ℕ MapFault = λ k. cond (ltb room k) (Err (SmallBuffer k)) (Ok k) in
-    ap (λ b. cond b (Err (Nodes 0)) (unless_empty (first_empty 0 (mapped bs).places) (answer (map_length (mapped bs))))) (has_node bs size)
-    ∙ ap (λ o. unless_empty o (answer (map_length (mapped bs)))) (none_empty (link_at bs m) 0 (range_with_len 0 m))
+    ap (λ b. cond b (Err (Nodes 0)) (unless_empty (first_empty (mapped bs).places) (answer (map_length (mapped bs))))) (has_node bs size)
+    ∙ ap (λ o. unless_empty o (answer (map_length (mapped bs)))) (none_empty bs)
     ∙ ap answer need
 
 by_room : (bs old new : List ℕ) (b : Bool) (r : Result ℕ MapFault) → b ≡ ltb (length old) (length bs) → map_fault bs ≡ None → r ≡ cond b (Err (SmallBuffer (length bs))) (Ok (length bs)) → new ≡ written (mapped bs) old r → map_bytes (mapped bs) ≡ bs → Rewritten bs old new r

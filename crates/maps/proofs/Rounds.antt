@@ -73,7 +73,7 @@ firsts_none f k zero none = refl
 firsts_none f k (suc n) none =
     ap (λ o. or_else o (first f (k + 1) n)) (none k (omega arith) (omega arith)) ∙ firsts_none f (k + 1) n (λ j low high. none j (omega arith) (omega arith))
 
-module _ (n : Net) (limits : Limits n) (one : 1 ≤ n.nodes) (full : first_empty 0 n.places ≡ None) where
+module _ (n : Net) (limits : Limits n) (one : 1 ≤ n.nodes) (full : first_empty n.places ≡ None) where
   nodes_back : node_count (map_bytes n) ≡ n.nodes
   nodes_back = from_be_bytes-to_be_bytes_2 n.nodes (omega (arith, limits.few_nodes))
 
@@ -87,7 +87,7 @@ module _ (n : Net) (limits : Limits n) (one : 1 ≤ n.nodes) (full : first_empty
       omega (arith, length-append E L, length_entries ends 4 (λ _. refl) n.places, length_entries attributes 8 (λ _. refl) n.places)
 
   sound_back : (k : ℕ) → k < length n.places → Sound n.nodes (link_of (place n.places k))
-  sound_back k h = limits.sound k (link_of (place n.places k)) (full_at 0 n.places full k h)
+  sound_back k h = limits.sound k (link_of (place n.places k)) (full_at n.places full k h)
 
   place_back : (k : ℕ) → k < length n.places → link_at (map_bytes n) (link_count (map_bytes n)) k ≡ link_of (place n.places k)
   place_back k h = ap (λ m. link_at (map_bytes n) m k) links_back ∙ link_back n k h limits.few_nodes (sound_back k h)
@@ -110,7 +110,7 @@ module _ (n : Net) (limits : Limits n) (one : 1 ≤ n.nodes) (full : first_empty
       let bs = map_bytes n in
       let places : n.places ≡ map (λ k. Some (link_at bs (link_count bs) k)) (range_with_len 0 (link_count bs)) =
       fill_by_all (λ k. Some (link_at bs (link_count bs) k)) n.places (link_count bs) None (sym links_back)
-      (λ k h. let within : k < length n.places = omega (arith, links_back) in full_at 0 n.places full k within ∙ ap Some (sym (place_back k within))) in
+      (λ k h. let within : k < length n.places = omega (arith, links_back) in full_at n.places full k within ∙ ap Some (sym (place_back k within))) in
       ap (λ c. record { nodes = c; places = (mapped bs).places }) nodes_back ∙ ap (λ ps. record { nodes = n.nodes; places = ps }) (sym places)
 
 -- What an answer with a length says of the network.
@@ -118,8 +118,8 @@ asked : (nodes : ℕ) (o : Option ℕ) (need room len : ℕ) → Ok len ≡ cond
 asked nodes None need room len e = grind (arith, nat_tests)
 asked nodes (Some k) need room len e = grind (arith, nat_tests)
 
-pub writable_ok : (n : Net) (room len : ℕ) → Ok len ≡ writable n room → (1 ≤ n.nodes) × (first_empty 0 n.places ≡ None) × (len ≡ map_length n)
-writable_ok n room len e = asked n.nodes (first_empty 0 n.places) (map_length n) room len e
+pub writable_ok : (n : Net) (room len : ℕ) → Ok len ≡ writable n room → (1 ≤ n.nodes) × (first_empty n.places ≡ None) × (len ≡ map_length n)
+writable_ok n room len e = asked n.nodes (first_empty n.places) (map_length n) room len e
 
 pub reads_back : (n : Net) (new rest : List ℕ) (room len : ℕ) → Limits n → Ok len ≡ writable n room → new ≡ map_bytes n ++ rest → ReadsBack n new (Ok len)
 reads_back n new rest room len limits e is =
@@ -137,4 +137,4 @@ byte_zero false true None need f e = let same : f ≡ SmallBuffer need = cc in a
 byte_zero false false None need f e = let z : ◌≡◌ {A = ℕ} 0 1 = cc in absurd (omega arith)
 
 pub writable_byte : (n : Net) (room : ℕ) (f : MapFault) → Err f ≡ writable n room → byte_of f ≡ 0
-writable_byte n room f e = byte_zero (eqb n.nodes 0) (ltb room (map_length n)) (first_empty 0 n.places) (map_length n) f e
+writable_byte n room f e = byte_zero (eqb n.nodes 0) (ltb room (map_length n)) (first_empty n.places) (map_length n) f e

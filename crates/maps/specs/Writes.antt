@@ -1,11 +1,11 @@
 -- The bytes of a network's map, and what writing them answers.
-use Rattle.std.specs.Prelude.{◌≡◌, ℕ, ◌+◌, ◌*◌, ◌/◌, ◌%◌, cond, List, [], ◌∷◌, ◌++◌, length, take, drop, Some, None, Ok, Err, Option, Result, ◌==◌, nat_lt}
+use Rattle.std.specs.Prelude.{◌≡◌, ℕ, ◌+◌, ◌*◌, ◌/◌, ◌%◌, cond, not, List, ◌++◌, length, take, drop, is_some, Some, None, Ok, Err, Option, Result, ◌==◌, nat_lt}
 use Rattle.std.specs.Int.{w16, w32, to_be_bytes}
-use Rattle.std.specs.List.{flat_map}
+use Rattle.std.specs.List.{find, flat_map, range_with_len}
 use Rattle.definitions.specs.declared.Link.{Link}
 use Rattle.maps.specs.declared.fault.MapFault.{MapFault}
 use Rattle.maps.specs.declared.fault.MapFault.TheVariants.{Nodes, EmptyPlace, SmallBuffer}
-use Rattle.definitions.specs.Networks.{Net}
+use Rattle.definitions.specs.Networks.{Net, place}
 use Rattle.maps.specs.Faults.{byte_of}
 use Rattle.maps.specs.Checks.{or_else, map_fault, opened}
 
@@ -35,11 +35,9 @@ map_bytes n = sizes n ++ (entries ends n.places ++ entries attributes n.places)
 abbrev pub map_length : Net → ℕ
 map_length n = 4 + 12 * length n.places
 
--- The first empty place, where the first of these has number k.
-abbrev pub first_empty : ℕ → List (Option Link) → Option ℕ
-first_empty k [] = None
-first_empty k (None ∷ ps) = Some k
-first_empty k (Some l ∷ ps) = first_empty (k + 1) ps
+-- The first empty place.
+abbrev pub first_empty : List (Option Link) → Option ℕ
+first_empty ps = find (λ k. not (is_some (place ps k))) (range_with_len 0 (length ps))
 
 abbrev pub unless_empty : Option ℕ → Result ℕ MapFault → Result ℕ MapFault
 unless_empty (Some k) next = Err (EmptyPlace k)
@@ -49,7 +47,7 @@ unless_empty None next = next
 abbrev pub writable : Net → ℕ → Result ℕ MapFault
 writable n room =
     cond (n.nodes == 0) (Err (Nodes 0))
-    (unless_empty (first_empty 0 n.places)
+    (unless_empty (first_empty n.places)
     (cond (nat_lt room (map_length n)) (Err (SmallBuffer (map_length n))) (Ok (map_length n))))
 
 -- The buffer afterwards: the map and what it held beyond; after a fault, what it held.

@@ -60,14 +60,9 @@ impl Column<8> for Attributes {
 
 // The first empty place, if any.
 fn first_empty<N: Network>(network: &N) -> Option<usize>
-    ensures { result ≡ first_empty 0 (N.Network.meaning network.now).places }
+    ensures { result ≡ first_empty (N.Network.meaning network.now).places }
 {
-    for k in 0..network.place_count() {
-        if network.place(k).is_none() {
-            return Some(k);
-        }
-    }
-    None
+    (0..network.place_count()).find(|k| network.place(*k).is_none())
 }
 
 // The questions before a map is written into `room` bytes; the length of the map.
@@ -99,7 +94,7 @@ fn sizes<N: Network>(network: &N) -> [u8; 4]
 // Writes an array of a map from `start` on: the entries of the links, one behind the other.
 fn write_column<const W: usize, C: Column<W>, N: Network>(network: &N, out: &mut [u8], start: usize)
     requires room { start + W * length (N.Network.meaning network.now).places ≤ length out.old }
-    requires full { first_empty 0 (N.Network.meaning network.now).places ≡ None }
+    requires full { first_empty (N.Network.meaning network.now).places ≡ None }
     ensures { out.new ≡ paste out.old start (entries C.Column.entry (N.Network.meaning network.now).places) (W * length (N.Network.meaning network.now).places) }
 {
     for k in 0..network.place_count() {
