@@ -5,6 +5,7 @@ ghost use Rattle.maps.specs.Faults.{link_byte, map_code, byte_of, fault_words};
 
 use definitions::FaultCode;
 use networks::draft::DraftFault;
+use std::error::Error;
 use std::fmt;
 
 // The first five cases are of reading, or of a node count of 0 when writing; each holds the number in question.
@@ -97,3 +98,5 @@ impl fmt::Display for MapFault {
         })
     }
 }
+
+impl Error for MapFault {}

@@ -163,6 +163,7 @@ impl<'a> Network for Map<'a> {
         self.framed.link_count()
     }
 
+    // An `if`: the closure of `then` would need clauses of its own.
     #[tactic(auto, using(crate::proofs::Firsts::place_within, crate::proofs::Firsts::place_past))]
     fn place(&self, k: usize) -> Option<Link> {
         if k < self.framed.link_count() {

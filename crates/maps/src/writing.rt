@@ -86,6 +86,7 @@ fn writable_len<N: Network>(network: &N, room: usize) -> Result<usize, MapFault>
 fn sizes<N: Network>(network: &N) -> [u8; 4]
     ensures { result ≡ sizes (N.Network.meaning network.now) }
 {
+    // Casts: both counts are within the limits, so a conversion has nothing to refuse.
     let [a, b] = (network.node_count() as u16).to_be_bytes();
     let [c, d] = (network.place_count() as u16).to_be_bytes();
     [a, b, c, d]
@@ -97,6 +98,7 @@ fn write_column<const W: usize, C: Column<W>, N: Network>(network: &N, out: &mut
     requires full { first_empty (N.Network.meaning network.now).places ≡ None }
     ensures { out.new ≡ paste out.old start (entries C.Column.entry (N.Network.meaning network.now).places) (W * length (N.Network.meaning network.now).places) }
 {
+    // Each entry by its offset: of chunks lent by `chunks_exact_mut`, a proof does not know what was written.
     for k in 0..network.place_count() {
         if let Some(link) = network.place(k) {
             put(out, start + W * k, &C::entry(link));
