@@ -1,5 +1,6 @@
 -- The first fault of a row: one step of the search, and what it means that there is none.
 use Rattle.std.proofs.Common.{◌≡◌, ℕ, zero, suc, ◌+◌, ◌-◌, ◌*◌, ◌^◌, ◌<◌, ◌≤◌, true, false, List, length, get_or, take, drop, is_err, Some, None, Option, Result, sym, refl, ap, ◌∙◌, subst, inl, inr, arith}
+use Rattle.std.specs.Option.{option_map, option_or}
 use Rattle.maps.specs.declared.fault.MapFault.{MapFault}
 use Rattle.std.proofs.lemmas.Bool.Decides.{nat_tests}
 use Rattle.std.proofs.lemmas.Bool.{cases_eq, cases_lt}
@@ -10,32 +11,34 @@ use Rattle.networks.specs.declared.draft.DraftFault.{DraftFault}
 use Rattle.definitions.specs.Networks.{AllSound, Sound, place}
 use Rattle.networks.specs.Drafts.{answered}
 use Rattle.maps.specs.Maps.{number_at, node_count, link_count, link_at, mapped}
-use Rattle.maps.specs.Checks.{or_else, first, as_map_fault, link_fault, size_fault, map_fault}
+use Rattle.maps.specs.declared.fault.MapFault.TheVariants.{BadLink}
+use Rattle.maps.specs.Faults.{link_byte}
+use Rattle.maps.specs.Checks.{first, link_fault, size_fault, map_fault}
 use Rattle.networks.proofs.Tables.{sound_unless}
 
-pub first_step : (f : ℕ → Option MapFault) (k n : ℕ) → k < n → first f k (n - k) ≡ or_else (f k) (first f (k + 1) (n - (k + 1)))
+pub first_step : (f : ℕ → Option MapFault) (k n : ℕ) → k < n → first f k (n - k) ≡ option_or (f k) (first f (k + 1) (n - (k + 1)))
 first_step f k n h = let e : n - k ≡ suc (n - (k + 1)) = omega arith in ap (first f k) e
 
 pub first_at : (f : ℕ → Option MapFault) (k n : ℕ) (r : Option MapFault) (x : MapFault) → k < n → first f k (n - k) ≡ r → Some x ≡ f k → Some x ≡ r
-first_at f k n r x h e here = ap (λ o. or_else o (first f (k + 1) (n - (k + 1)))) here ∙ sym (first_step f k n h) ∙ e
+first_at f k n r x h e here = ap (λ o. option_or o (first f (k + 1) (n - (k + 1)))) here ∙ sym (first_step f k n h) ∙ e
 
 pub first_next : (f : ℕ → Option MapFault) (k n : ℕ) (r : Option MapFault) → k < n → first f k (n - k) ≡ r → None ≡ f k → first f (k + 1) (n - (k + 1)) ≡ r
-first_next f k n r h e here = ap (λ o. or_else o (first f (k + 1) (n - (k + 1)))) here ∙ sym (first_step f k n h) ∙ e
+first_next f k n r h e here = ap (λ o. option_or o (first f (k + 1) (n - (k + 1)))) here ∙ sym (first_step f k n h) ∙ e
 
 pub first_end : (f : ℕ → Option MapFault) (k n : ℕ) (r : Option MapFault) → n ≤ k → first f k (n - k) ≡ r → None ≡ r
 first_end f k n r h e = let z : n - k ≡ 0 = omega arith in sym (ap (first f k) z) ∙ e
 
-or_else_none : (a b : Option MapFault) → or_else a b ≡ None → (a ≡ None) × (b ≡ None)
-or_else_none None b e = (refl, e)
-or_else_none (Some f) b e = let z : ◌≡◌ {A = ℕ} 0 1 = cc in absurd (omega arith)
+option_or_none : (a b : Option MapFault) → option_or a b ≡ None → (a ≡ None) × (b ≡ None)
+option_or_none None b e = (refl, e)
+option_or_none (Some f) b e = let z : ◌≡◌ {A = ℕ} 0 1 = cc in absurd (omega arith)
 
 first_none : (f : ℕ → Option MapFault) (k n : ℕ) → first f k n ≡ None → (j : ℕ) → k ≤ j → j < k + n → f j ≡ None
 first_none f k zero e j low high = absurd (omega arith)
 first_none f k (suc n) e j low high =
-    let parts = or_else_none (f k) (first f (k + 1) n) e in
+    let parts = option_or_none (f k) (first f (k + 1) n) e in
     elim (cases_eq j k) [ inl same ↦ rw same parts.0 | inr apart ↦ first_none f (k + 1) n parts.1 j (omega arith) (omega arith) ]
 
-as_none : (o : Option DraftFault) → as_map_fault o ≡ None → None ≡ o
+as_none : (o : Option DraftFault) → option_map (λ f. BadLink f (link_byte f)) o ≡ None → None ≡ o
 as_none None e = refl
 as_none (Some f) e = let z : ◌≡◌ {A = ℕ} 0 1 = cc in absurd (omega arith)
 
@@ -75,7 +78,7 @@ well_formed bs fits links k l h =
     ]
 
 pub no_size_fault : (bs : List ℕ) → map_fault bs ≡ None → size_fault bs ≡ None
-no_size_fault bs e = (or_else_none (size_fault bs) _ e).0
+no_size_fault bs e = (option_or_none (size_fault bs) _ e).0
 
 pub none_if_ok : {F : Type 0} (o : Option F) (r : Result Unit F) → r ≡ answered o → false ≡ is_err r → o ≡ None
 none_if_ok None r e ok = refl

@@ -7,11 +7,12 @@ use Rattle.std.proofs.lemmas.List.FromFn.{length-map-range_with_len}
 use Rattle.std.proofs.lemmas.List.{drop-drop, take_all, length-drop, length-take-le}
 use Rattle.std.proofs.lemmas.Nat.{be_bytes_2, be_bytes_4}
 use Rattle.definitions.specs.declared.Link.{Link}
+use Rattle.std.specs.Option.{option_or}
 use Rattle.maps.specs.declared.fault.MapFault.{MapFault}
 use Rattle.maps.specs.declared.fault.MapFault.TheVariants.{Nodes, SmallBuffer}
 use Rattle.definitions.specs.Networks.{Net, place}
 use Rattle.maps.specs.Maps.{number_at, node_count, link_count, link_at, mapped}
-use Rattle.maps.specs.Checks.{or_else, size_fault, map_fault, unless, opened}
+use Rattle.maps.specs.Checks.{size_fault, map_fault, unless, opened}
 use Rattle.maps.specs.Writes.{ends, attributes, link_of, entries, sizes, map_bytes, map_length, first_empty, unless_empty, writable, written, Rewritten}
 use Rattle.maps.proofs.Firsts.{sizes_right, no_size_fault, part_fits, place_within}
 use Rattle.maps.proofs.Empties.{nothing_found}
@@ -92,10 +93,10 @@ by_room : (bs old new : List ℕ) (b : Bool) (r : Result ℕ MapFault) → b ≡
 by_room bs old new true (Ok len) test none r wrote same = let z : ◌≡◌ {A = ℕ} 0 1 = cc in absurd (omega arith)
 by_room bs old new true (Err f) test none r wrote same =
     let f_is : SmallBuffer (length bs) ≡ f = cc in
-    (ap (λ o. or_else o (cond (ltb (length old) (length bs)) (Some (SmallBuffer (length bs))) None)) none ∙ ap (λ b. cond b (Some (SmallBuffer (length bs))) None) (sym test) ∙ ap Some f_is, wrote)
+    (ap (λ o. option_or o (cond (ltb (length old) (length bs)) (Some (SmallBuffer (length bs))) None)) none ∙ ap (λ b. cond b (Some (SmallBuffer (length bs))) None) (sym test) ∙ ap Some f_is, wrote)
 by_room bs old new false (Ok len) test none r wrote same =
     let len_is : len ≡ length bs = cc in
-    (ap (λ o. or_else o (cond (ltb (length old) (length bs)) (Some (SmallBuffer (length bs))) None)) none ∙ ap (λ b. cond b (Some (SmallBuffer (length bs))) None) (sym test), len_is, wrote ∙ ap (λ xs. xs ++ drop len old) same)
+    (ap (λ o. option_or o (cond (ltb (length old) (length bs)) (Some (SmallBuffer (length bs))) None)) none ∙ ap (λ b. cond b (Some (SmallBuffer (length bs))) None) (sym test), len_is, wrote ∙ ap (λ xs. xs ++ drop len old) same)
 by_room bs old new false (Err f) test none r wrote same = let z : ◌≡◌ {A = ℕ} 0 1 = cc in absurd (omega arith)
 
 pub rewritten_from : (bs old new : List ℕ) (net : Net) (r : Result ℕ MapFault) → ((i : ℕ) → get_or bs i 0 < 256) → map_fault bs ≡ None → net ≡ mapped bs → r ≡ writable net (length old) → new ≡ written net old r → Rewritten bs old new r

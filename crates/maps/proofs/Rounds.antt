@@ -7,13 +7,14 @@ use Rattle.std.proofs.lemmas.Bool.Decides.{nat_tests}
 use Rattle.std.proofs.lemmas.List.FromFn.{fill_by_all}
 use Rattle.std.proofs.lemmas.List.{get_or-drop, drop-drop, drop-append-le, drop_at, drop_more, length-append, take_at}
 use Rattle.definitions.specs.declared.Link.{Link}
+use Rattle.std.specs.Option.{option_map, option_or}
 use Rattle.maps.specs.declared.fault.MapFault.{MapFault}
-use Rattle.maps.specs.declared.fault.MapFault.TheVariants.{Nodes, EmptyPlace, SmallBuffer}
-use Rattle.maps.specs.Faults.{byte_of}
+use Rattle.maps.specs.declared.fault.MapFault.TheVariants.{Nodes, BadLink, EmptyPlace, SmallBuffer}
+use Rattle.maps.specs.Faults.{byte_of, link_byte}
 use Rattle.definitions.specs.Networks.{Net, Limits, Sound, place}
 use Rattle.networks.specs.Drafts.{refusal}
 use Rattle.maps.specs.Maps.{number_at, node_count, link_count, link_at, mapped}
-use Rattle.maps.specs.Checks.{or_else, first, as_map_fault, link_fault, size_fault, map_fault, unless, opened}
+use Rattle.maps.specs.Checks.{first, link_fault, size_fault, map_fault, unless, opened}
 use Rattle.maps.specs.Writes.{link_of, ends, attributes, entries, map_bytes, map_length, first_empty, unless_empty, writable, ReadsBack}
 use Rattle.maps.proofs.Empties.{full_at}
 use Rattle.maps.proofs.Pastes.{length_entries, drop_entries}
@@ -71,7 +72,7 @@ refusal_none nodes k l h sound = grind (arith, nat_tests)
 firsts_none : (f : ℕ → Option MapFault) (k n : ℕ) → ((j : ℕ) → k ≤ j → j < k + n → f j ≡ None) → first f k n ≡ None
 firsts_none f k zero none = refl
 firsts_none f k (suc n) none =
-    ap (λ o. or_else o (first f (k + 1) n)) (none k (omega arith) (omega arith)) ∙ firsts_none f (k + 1) n (λ j low high. none j (omega arith) (omega arith))
+    ap (λ o. option_or o (first f (k + 1) n)) (none k (omega arith) (omega arith)) ∙ firsts_none f (k + 1) n (λ j low high. none j (omega arith) (omega arith))
 
 module _ (n : Net) (limits : Limits n) (one : 1 ≤ n.nodes) (full : first_empty n.places ≡ None) where
   nodes_back : node_count (map_bytes n) ≡ n.nodes
@@ -94,14 +95,16 @@ module _ (n : Net) (limits : Limits n) (one : 1 ≤ n.nodes) (full : first_empty
 
   none_back : (k : ℕ) → k < length n.places → link_fault (map_bytes n) k ≡ None
   none_back k h =
-      ap (λ c. as_map_fault (refusal c k (link_at (map_bytes n) (link_count (map_bytes n)) k))) nodes_back
-      ∙ ap (λ l. as_map_fault (refusal n.nodes k l)) (place_back k h)
-      ∙ ap as_map_fault (refusal_none n.nodes k (link_of (place n.places k)) (omega (arith, limits.few_places)) (sound_back k h))
+      let bs = map_bytes n in
+      ap (option_map (λ f. BadLink f (link_byte f)))
+      (ap (λ c. refusal c k (link_at bs (link_count bs) k)) nodes_back
+      ∙ ap (refusal n.nodes k) (place_back k h)
+      ∙ refusal_none n.nodes k (link_of (place n.places k)) (omega (arith, limits.few_places)) (sound_back k h))
 
   -- What is written has no fault ..
   pub checks : map_fault (map_bytes n) ≡ None
   checks =
-      ap (λ o. or_else o (first (link_fault (map_bytes n)) 0 (link_count (map_bytes n)))) (sizes_none (map_bytes n) n.nodes (length n.places) nodes_back links_back length_back one limits.few_nodes limits.few_places)
+      ap (λ o. option_or o (first (link_fault (map_bytes n)) 0 (link_count (map_bytes n)))) (sizes_none (map_bytes n) n.nodes (length n.places) nodes_back links_back length_back one limits.few_nodes limits.few_places)
       ∙ firsts_none (link_fault (map_bytes n)) 0 (link_count (map_bytes n)) (λ j low high. none_back j (omega (arith, links_back)))
 
   -- .. and means the network.

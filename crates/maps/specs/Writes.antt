@@ -1,5 +1,6 @@
 -- The bytes of a network's map, and what writing them answers.
 use Rattle.std.specs.Prelude.{◌≡◌, ℕ, ◌+◌, ◌*◌, ◌/◌, ◌%◌, cond, not, List, ◌++◌, length, take, drop, is_some, Some, None, Ok, Err, Option, Result, ◌==◌, nat_lt}
+use Rattle.std.specs.Option.{option_or}
 use Rattle.std.specs.Int.{w16, w32, to_be_bytes}
 use Rattle.std.specs.List.{find, flat_map, range_with_len}
 use Rattle.definitions.specs.declared.Link.{Link}
@@ -7,7 +8,7 @@ use Rattle.maps.specs.declared.fault.MapFault.{MapFault}
 use Rattle.maps.specs.declared.fault.MapFault.TheVariants.{Nodes, EmptyPlace, SmallBuffer}
 use Rattle.definitions.specs.Networks.{Net, place}
 use Rattle.maps.specs.Faults.{byte_of}
-use Rattle.maps.specs.Checks.{or_else, map_fault, opened}
+use Rattle.maps.specs.Checks.{map_fault, opened}
 
 -- A link's entries in the two arrays of a map. All numbers have the high byte first.
 abbrev pub ends : Link → List ℕ
@@ -67,7 +68,7 @@ AtByteZero (Err f) = byte_of f ≡ 0
 
 -- The first "no" before a map is read and written again: those of the check, then whether the bytes find room.
 abbrev pub rewrite_fault : List ℕ → ℕ → Option MapFault
-rewrite_fault bs room = or_else (map_fault bs) (cond (nat_lt room (length bs)) (Some (SmallBuffer (length bs))) None)
+rewrite_fault bs room = option_or (map_fault bs) (cond (nat_lt room (length bs)) (Some (SmallBuffer (length bs))) None)
 
 -- A map read and written again is the same bytes.
 abbrev pub Rewritten : List ℕ → List ℕ → List ℕ → Result ℕ MapFault → Type 0
