@@ -3,7 +3,7 @@ use Rattle.std.proofs.Common.{◌≡◌, ℕ, zero, suc, ◌+◌, ◌*◌, ◌<�
 use lib.Seq.{paste}
 use Rattle.std.specs.List.{flat_map}
 use Rattle.std.proofs.lemmas.List.Edits.{paste-paste, paste_all}
-use Rattle.std.proofs.lemmas.List.{flat_map_more, take_more, take_all, length-append, length-take-le, drop-drop, drop_at}
+use Rattle.std.proofs.lemmas.List.{flat_map_more, take_more, length-append, length-take-le, drop-drop, drop_at}
 use Rattle.definitions.specs.declared.Link.{Link}
 use Rattle.definitions.specs.Networks.{Net}
 use Rattle.maps.specs.Writes.{sizes, ends, attributes, link_of, entries, map_bytes, map_length}

@@ -1,5 +1,5 @@
 -- A map read and written again is the same bytes.
-use Rattle.std.proofs.Common.{◌≡◌, ℕ, zero, suc, ◌+◌, ◌*◌, ◌/◌, ◌%◌, ◌<◌, ◌≤◌, Bool, true, false, cond, not, eqb, ltb, List, [], ◌∷◌, ◌++◌, map, length, get_or, take, drop, is_some, Some, None, Ok, Err, Option, Result, sym, refl, ap, ◌∙◌, mul-zero, mul-suc, arith, take-append-drop, take-add}
+use Rattle.std.proofs.Common.{◌≡◌, ℕ, zero, suc, ◌+◌, ◌*◌, ◌<◌, ◌≤◌, Bool, true, false, cond, not, eqb, ltb, List, ◌++◌, map, length, get_or, take, drop, is_some, Some, None, Ok, Err, Option, Result, sym, refl, ap, ◌∙◌, mul-zero, mul-suc, arith, take-append-drop, take-add}
 use Rattle.std.specs.Int.{w16, w32, to_be_bytes}
 use Rattle.std.specs.List.{range_with_len, flat_map}
 use Rattle.std.proofs.lemmas.Bool.Decides.{nat_tests}
@@ -12,7 +12,7 @@ use Rattle.maps.specs.declared.fault.MapFault.{MapFault}
 use Rattle.maps.specs.declared.fault.MapFault.TheVariants.{Nodes, SmallBuffer}
 use Rattle.definitions.specs.Networks.{Net, place}
 use Rattle.maps.specs.Maps.{number_at, node_count, link_count, link_at, mapped}
-use Rattle.maps.specs.Checks.{size_fault, map_fault, unless, opened}
+use Rattle.maps.specs.Checks.{size_fault, map_fault}
 use Rattle.maps.specs.Writes.{ends, attributes, link_of, entries, sizes, map_bytes, map_length, first_empty, unless_empty, writable, written, Rewritten}
 use Rattle.maps.proofs.Firsts.{sizes_right, no_size_fault, part_fits, place_within}
 use Rattle.maps.proofs.Empties.{nothing_found}

@@ -91,7 +91,8 @@ impl fmt::Display for MapFault {
                 "the tail of this link is not below the node count",
             MapFault::BadLink(DraftFault::HeadBeyond(_), _) =>
                 "the head of this link is not below the node count",
-            MapFault::BadLink(DraftFault::SameEnds(_), _) => "this link leads from a node to itself",
+            MapFault::BadLink(DraftFault::SameEnds(_), _) =>
+                "this link leads from a node to itself",
             MapFault::BadLink(_, _) => "no draft would take this link",
             MapFault::EmptyPlace(_) => "this place holds no link",
             MapFault::SmallBuffer(_) => "the buffer does not hold the map",

@@ -1,4 +1,4 @@
-use Rattle.std.proofs.Common.{◌≡◌, ℕ, ◌<◌, None, get_or, sym, arith, rules}
+use Rattle.std.proofs.Common.{◌≡◌, None, sym, arith, rules}
 use Rattle.networks.proofs.Tables.{answered_ok}
 use Rattle.maps.specs.Maps.{link_count}
 use Rattle.maps.specs.Checks.{link_fault, first}
