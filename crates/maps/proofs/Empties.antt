@@ -8,7 +8,7 @@ use Rattle.maps.specs.Writes.{first_empty, link_of}
 
 passed : (b : Bool) (k : ℕ) (o : Option ℕ) → cond b (Some k) o ≡ None → (b ≡ false) × (o ≡ None)
 passed false k o e = (refl, e)
-passed true k o e = let z : ◌≡◌ {A = ℕ} 0 1 = cc in absurd (omega arith)
+passed true k o e = grind arith
 
 none_found : (p : ℕ → Bool) (a n : ℕ) → find p (range_with_len a n) ≡ None → (k : ℕ) → a ≤ k → k < a + n → p k ≡ false
 none_found p a zero e k low high = absurd (omega arith)
@@ -23,7 +23,7 @@ nothing_found p a (suc n) none =
 
 is_link : (p : Option Link) → not (is_some p) ≡ false → p ≡ Some (link_of p)
 is_link (Some l) e = refl
-is_link None e = let z : ◌≡◌ {A = ℕ} 0 1 = cc in absurd (omega arith)
+is_link None e = grind arith
 
 -- Where no place is empty, each holds a link.
 pub full_at : (ps : List (Option Link)) → first_empty ps ≡ None → (k : ℕ) → k < length ps → place ps k ≡ Some (link_of (place ps k))
@@ -33,4 +33,4 @@ full_at ps e k h = is_link (place ps k) (none_found (λ j. not (is_some (place p
 pub never_empty : {X : Type 0} (ps : List (Option Link)) (k : ℕ) → first_empty ps ≡ None → k < length ps → None ≡ place ps k → X
 never_empty ps k full h none =
     let some = full_at ps full k h in
-    let z : ◌≡◌ {A = ℕ} 0 1 = cc in absurd (omega arith)
+    grind arith

@@ -30,7 +30,7 @@ first_end f k n r h e = let z : n - k ≡ 0 = omega arith in sym (ap (first f k)
 
 option_or_none : (a b : Option MapFault) → option_or a b ≡ None → (a ≡ None) × (b ≡ None)
 option_or_none None b e = (refl, e)
-option_or_none (Some f) b e = let z : ◌≡◌ {A = ℕ} 0 1 = cc in absurd (omega arith)
+option_or_none (Some f) b e = grind arith
 
 first_none : (f : ℕ → Option MapFault) (k n : ℕ) → first f k n ≡ None → (j : ℕ) → k ≤ j → j < k + n → f j ≡ None
 first_none f k zero e j low high = absurd (omega arith)
@@ -40,7 +40,7 @@ first_none f k (suc n) e j low high =
 
 as_none : (o : Option DraftFault) → option_map (λ f. BadLink f (link_byte f)) o ≡ None → None ≡ o
 as_none None e = refl
-as_none (Some f) e = let z : ◌≡◌ {A = ℕ} 0 1 = cc in absurd (omega arith)
+as_none (Some f) e = grind arith
 
 pub sizes_right : (bs : List ℕ) → size_fault bs ≡ None → (node_count bs ≤ 256) × (link_count bs ≤ 1024) × (length bs ≡ 4 + 12 * link_count bs)
 sizes_right bs e = grind (arith, nat_tests)
@@ -55,12 +55,15 @@ part_fits bs fits n at i = elim (cases_lt i n) [
 number_fits : (bs : List ℕ) → ((i : ℕ) → get_or bs i 0 < 256) → (at : ℕ) → number_at w32 bs at < 2 ^ 32
 number_fits bs fits at = let part = part_fits bs fits 4 at in omega (arith, part 0, part 1, part 2, part 3)
 
--- What a place of the network of a map holds.
+-- How many places the network of a map has, and what a place holds.
+pub mapped_places : (bs : List ℕ) → length (mapped bs).places ≡ link_count bs
+mapped_places bs = length-map-range_with_len (λ k. Some (link_at bs (link_count bs) k)) 0 (link_count bs)
+
 pub place_within : (bs : List ℕ) (k : ℕ) → k < link_count bs → place (mapped bs).places k ≡ Some (link_at bs (link_count bs) k)
 place_within bs k h = get_or-map-range_with_len (λ j. Some (link_at bs (link_count bs) j)) 0 (link_count bs) k k None h (omega arith)
 
 pub place_past : (bs : List ℕ) (k : ℕ) → link_count bs ≤ k → place (mapped bs).places k ≡ None
-place_past bs k h = get_or_past (mapped bs).places k None (rw length-map-range_with_len h)
+place_past bs k h = get_or_past (mapped bs).places k None (omega (arith, mapped_places bs))
 
 -- Links without a fault are sound.
 pub well_formed : (bs : List ℕ) → ((i : ℕ) → get_or bs i 0 < 256) → first (link_fault bs) 0 (link_count bs) ≡ None → AllSound (mapped bs)
@@ -74,14 +77,8 @@ well_formed bs fits links k l h =
           subst (Sound (node_count bs)) same (sound_unless (node_count bs) k (link_at bs m k) none (number_fits bs fits _) (number_fits bs fits _)).1
       | inr past ↦
           let none : None ≡ Some l = sym (place_past bs k past) ∙ h in
-          let z : ◌≡◌ {A = ℕ} 0 1 = cc in absurd (omega arith)
+          grind arith
     ]
 
 pub no_size_fault : (bs : List ℕ) → map_fault bs ≡ None → size_fault bs ≡ None
 no_size_fault bs e = (option_or_none (size_fault bs) _ e).0
-
-pub none_if_ok : {F : Type 0} (o : Option F) (r : Result Unit F) → r ≡ answered o → false ≡ is_err r → o ≡ None
-none_if_ok None r e ok = refl
-none_if_ok (Some f) r e ok =
-    let flag : false ≡ true = ok ∙ ap is_err e in
-    let z : ◌≡◌ {A = ℕ} 0 1 = cc in absurd (omega arith)

@@ -14,7 +14,7 @@ use Rattle.definitions.specs.Networks.{Net, place}
 use Rattle.maps.specs.Maps.{number_at, node_count, link_count, link_at, mapped}
 use Rattle.maps.specs.Checks.{size_fault, map_fault}
 use Rattle.maps.specs.Writes.{ends, attributes, link_of, entries, sizes, map_bytes, map_length, first_empty, unless_empty, writable, written, Rewritten}
-use Rattle.maps.proofs.Firsts.{sizes_right, no_size_fault, part_fits, place_within}
+use Rattle.maps.proofs.Firsts.{sizes_right, no_size_fault, part_fits, place_within, mapped_places}
 use Rattle.maps.proofs.Empties.{nothing_found}
 
 module _ (bs : List ℕ) (fits : (i : ℕ) → get_or bs i 0 < 256) where
@@ -52,7 +52,7 @@ entries_from f c g bs base m each a (suc n) h =
 none_empty : (bs : List ℕ) → first_empty (mapped bs).places ≡ None
 none_empty bs =
     let ps = (mapped bs).places in
-    let count = length-map-range_with_len (λ k. Some (link_at bs (link_count bs) k)) 0 (link_count bs) in
+    let count = mapped_places bs in
     nothing_found (λ k. not (is_some (place ps k))) 0 (length ps) (λ k low high. ap (λ p. not (is_some p)) (place_within bs k (omega (arith, count))))
 
 module _ (bs : List ℕ) (fits : (i : ℕ) → get_or bs i 0 < 256) (long : length bs ≡ 4 + 12 * link_count bs) where
@@ -62,7 +62,7 @@ module _ (bs : List ℕ) (fits : (i : ℕ) → get_or bs i 0 < 256) (long : leng
       let m = link_count bs in
       let n = mapped bs in
       let g : ℕ → Option Link = λ k. Some (link_at bs m k) in
-      let count : length n.places ≡ m = length-map-range_with_len g 0 m in
+      let count = mapped_places bs in
       let start : sizes n ≡ take 4 bs = ap (λ k. to_be_bytes w16 (node_count bs) ++ to_be_bytes w16 k) count ∙ two16 bs fits 0 2 refl (omega arith) in
       let arcs : entries ends n.places ≡ take (4 * m) (drop 4 bs) = entries_from (λ p. ends (link_of p)) 4 g bs 4 m (λ k h. two16 bs fits (4 + 4 * k) (6 + 4 * k) (omega arith) (omega arith)) 0 m (omega arith) in
       let base : 4 + 4 * m + 8 * 0 ≡ 4 + 4 * m = omega arith in
@@ -81,7 +81,7 @@ has_node bs e = grind (arith, nat_tests)
 writable_map : (bs : List ℕ) (room : ℕ) → map_fault bs ≡ None → writable (mapped bs) room ≡ cond (ltb room (length bs)) (Err (SmallBuffer (length bs))) (Ok (length bs))
 writable_map bs room none =
     let m = link_count bs in
-    let count : length (mapped bs).places ≡ m = length-map-range_with_len (λ k. Some (link_at bs m k)) 0 m in
+    let count = mapped_places bs in
     let size = no_size_fault bs none in
     let need : map_length (mapped bs) ≡ length bs = omega (arith, count, (sizes_right bs size).2) in
     let answer : ℕ → Result ℕ MapFault = λ k. cond (ltb room k) (Err (SmallBuffer k)) (Ok k) in
@@ -90,14 +90,10 @@ writable_map bs room none =
     ∙ ap answer need
 
 by_room : (bs old new : List ℕ) (b : Bool) (r : Result ℕ MapFault) → b ≡ ltb (length old) (length bs) → map_fault bs ≡ None → r ≡ cond b (Err (SmallBuffer (length bs))) (Ok (length bs)) → new ≡ written (mapped bs) old r → map_bytes (mapped bs) ≡ bs → Rewritten bs old new r
-by_room bs old new true (Ok len) test none r wrote same = let z : ◌≡◌ {A = ℕ} 0 1 = cc in absurd (omega arith)
-by_room bs old new true (Err f) test none r wrote same =
-    let f_is : SmallBuffer (length bs) ≡ f = cc in
-    (ap (λ o. option_or o (cond (ltb (length old) (length bs)) (Some (SmallBuffer (length bs))) None)) none ∙ ap (λ b. cond b (Some (SmallBuffer (length bs))) None) (sym test) ∙ ap Some f_is, wrote)
-by_room bs old new false (Ok len) test none r wrote same =
-    let len_is : len ≡ length bs = cc in
-    (ap (λ o. option_or o (cond (ltb (length old) (length bs)) (Some (SmallBuffer (length bs))) None)) none ∙ ap (λ b. cond b (Some (SmallBuffer (length bs))) None) (sym test), len_is, wrote ∙ ap (λ xs. xs ++ drop len old) same)
-by_room bs old new false (Err f) test none r wrote same = let z : ◌≡◌ {A = ℕ} 0 1 = cc in absurd (omega arith)
+by_room bs old new true (Ok len) test none r wrote same = grind arith
+by_room bs old new true (Err f) test none r wrote same = (grind arith, wrote)
+by_room bs old new false (Ok len) test none r wrote same = (grind arith, cc, wrote ∙ ap (λ xs. xs ++ drop len old) same)
+by_room bs old new false (Err f) test none r wrote same = grind arith
 
 pub rewritten_from : (bs old new : List ℕ) (net : Net) (r : Result ℕ MapFault) → ((i : ℕ) → get_or bs i 0 < 256) → map_fault bs ≡ None → net ≡ mapped bs → r ≡ writable net (length old) → new ≡ written net old r → Rewritten bs old new r
 rewritten_from bs old new net r fits none is value bytes =

@@ -45,11 +45,7 @@ at_attributes n k h =
     ∙ ap (entries attributes) (drop_more n.places k None h)
 
 pub same_link : (l : Link) (t h f g : ℕ) → t ≡ l.tail → h ≡ l.head → f ≡ l.figure → g ≡ l.groups → ◌≡◌ {A = Link} (record { tail = t; head = h; figure = f; groups = g }) l
-same_link l t h f g tail head figure groups =
-    ap (λ x. record { tail = x; head = h; figure = f; groups = g }) tail
-    ∙ ap (λ x. record { tail = l.tail; head = x; figure = f; groups = g }) head
-    ∙ ap (λ x. record { tail = l.tail; head = l.head; figure = x; groups = g }) figure
-    ∙ ap (λ x. record { tail = l.tail; head = l.head; figure = l.figure; groups = x }) groups
+same_link l t h f g tail head figure groups = rw (tail, head, figure, groups) refl
 
 -- Link k of the map is the link of place k.
 link_back : (n : Net) (k : ℕ) → k < length n.places → n.nodes ≤ 256 → Sound n.nodes (link_of (place n.places k)) → link_at (map_bytes n) (length n.places) k ≡ link_of (place n.places k)
@@ -131,13 +127,3 @@ reads_back n new rest room len limits e is =
     let front : take len new ≡ map_bytes n = ap (take len) is ∙ take_at (map_bytes n) rest len long in
     let none : map_fault (map_bytes n) ≡ None = checks n limits ok.0 ok.1 in
     (ap map_fault front ∙ none, ap opened front ∙ ap (λ o. unless o (mapped (map_bytes n))) none ∙ means n limits ok.0 ok.1)
-
--- Each refusal to write lies at byte 0.
-byte_zero : (b c : Bool) (o : Option ℕ) (need : ℕ) (f : MapFault) → Err f ≡ cond b (Err (Nodes 0)) (unless_empty o (cond c (Err (SmallBuffer need)) (Ok need))) → byte_of f ≡ 0
-byte_zero true c o need f e = let same : f ≡ Nodes 0 = cc in ap byte_of same
-byte_zero false c (Some k) need f e = let same : f ≡ EmptyPlace k = cc in ap byte_of same
-byte_zero false true None need f e = let same : f ≡ SmallBuffer need = cc in ap byte_of same
-byte_zero false false None need f e = let z : ◌≡◌ {A = ℕ} 0 1 = cc in absurd (omega arith)
-
-pub writable_byte : (n : Net) (room : ℕ) (f : MapFault) → Err f ≡ writable n room → byte_of f ≡ 0
-writable_byte n room f e = byte_zero (eqb n.nodes 0) (ltb room (map_length n)) (first_empty n.places) (map_length n) f e

@@ -69,8 +69,7 @@ impl<'a> Framed<'a> {
         requires { k < link_count self.now.bytes.now }
         ensures { result ≡ answered (link_fault self.now.bytes.now k) }
     {
-        admit(self.node_count(), k, self.link(k))?;
-        Ok(())
+        Ok(admit(self.node_count(), k, self.link(k))?)
     }
 
     // Is each link one that a draft would take?
@@ -94,14 +93,14 @@ impl<'a> TryFrom<&'a [u8]> for Framed<'a> {
 
     fn try_from(bytes: &'a [u8]) -> Result<Self, MapFault> {
         let len = bytes.len();
-        if len < 4 {
+        let [a, b, c, d, ..] = *bytes else {
             return Err(MapFault::TooShort(len));
-        }
-        let nodes = usize::from(u16::from_be_bytes(bytes_at(bytes, 0)));
-        if nodes == 0 || nodes > 256 {
+        };
+        let nodes = usize::from(u16::from_be_bytes([a, b]));
+        if !(1..=256).contains(&nodes) {
             return Err(MapFault::Nodes(nodes));
         }
-        let count = usize::from(u16::from_be_bytes(bytes_at(bytes, 2)));
+        let count = usize::from(u16::from_be_bytes([c, d]));
         if count > 1024 {
             return Err(MapFault::Links(count));
         }
@@ -159,6 +158,7 @@ impl<'a> Network for Map<'a> {
         self.framed.node_count()
     }
 
+    #[tactic(auto, using(crate::proofs::Firsts::mapped_places))]
     fn place_count(&self) -> usize {
         self.framed.link_count()
     }
