@@ -13,8 +13,7 @@ passed true k o e = grind arith
 none_found : (p : ℕ → Bool) (a n : ℕ) → find p (range_with_len a n) ≡ None → (k : ℕ) → a ≤ k → k < a + n → p k ≡ false
 none_found p a zero e k low high = absurd (omega arith)
 none_found p a (suc n) e k low high =
-    let here = passed (p a) a (find p (range_with_len (a + 1) n)) e in
-    elim (cases_eq k a) [ inl same ↦ ap p same ∙ here.0 | inr apart ↦ none_found p (a + 1) n here.1 k (omega arith) (omega arith) ]
+    grind (arith, passed (p a) a (find p (range_with_len (a + 1) n)) e, none_found p (a + 1) n)
 
 pub nothing_found : (p : ℕ → Bool) (a n : ℕ) → ((k : ℕ) → a ≤ k → k < a + n → p k ≡ false) → find p (range_with_len a n) ≡ None
 nothing_found p a zero none = refl

@@ -20,10 +20,10 @@ pub first_step : (f : ℕ → Option MapFault) (k n : ℕ) → k < n → first f
 first_step f k n h = let e : n - k ≡ suc (n - (k + 1)) = omega arith in ap (first f k) e
 
 pub first_at : (f : ℕ → Option MapFault) (k n : ℕ) (r : Option MapFault) (x : MapFault) → k < n → first f k (n - k) ≡ r → Some x ≡ f k → Some x ≡ r
-first_at f k n r x h e here = ap (λ o. option_or o (first f (k + 1) (n - (k + 1)))) here ∙ sym (first_step f k n h) ∙ e
+first_at f k n r x h e here = grind (arith, first_step)
 
 pub first_next : (f : ℕ → Option MapFault) (k n : ℕ) (r : Option MapFault) → k < n → first f k (n - k) ≡ r → None ≡ f k → first f (k + 1) (n - (k + 1)) ≡ r
-first_next f k n r h e here = ap (λ o. option_or o (first f (k + 1) (n - (k + 1)))) here ∙ sym (first_step f k n h) ∙ e
+first_next f k n r h e here = grind (arith, first_step)
 
 pub first_end : (f : ℕ → Option MapFault) (k n : ℕ) (r : Option MapFault) → n ≤ k → first f k (n - k) ≡ r → None ≡ r
 first_end f k n r h e = let z : n - k ≡ 0 = omega arith in sym (ap (first f k) z) ∙ e
@@ -34,9 +34,7 @@ option_or_none (Some f) b e = grind arith
 
 first_none : (f : ℕ → Option MapFault) (k n : ℕ) → first f k n ≡ None → (j : ℕ) → k ≤ j → j < k + n → f j ≡ None
 first_none f k zero e j low high = absurd (omega arith)
-first_none f k (suc n) e j low high =
-    let parts = option_or_none (f k) (first f (k + 1) n) e in
-    elim (cases_eq j k) [ inl same ↦ rw same parts.0 | inr apart ↦ first_none f (k + 1) n parts.1 j (omega arith) (omega arith) ]
+first_none f k (suc n) e j low high = grind (arith, option_or_none (f k) (first f (k + 1) n) e, first_none f (k + 1) n)
 
 as_none : (o : Option DraftFault) → option_map (λ f. BadLink f (link_byte f)) o ≡ None → None ≡ o
 as_none None e = refl
@@ -47,10 +45,7 @@ sizes_right bs e = grind (arith, nat_tests)
 
 -- Part of a list of bytes is bytes.
 pub part_fits : (bs : List ℕ) → ((i : ℕ) → get_or bs i 0 < 256) → (n at : ℕ) → (i : ℕ) → get_or (take n (drop at bs)) i 0 < 256
-part_fits bs fits n at i = elim (cases_lt i n) [
-  | inl within ↦ rw (get_or-take n (drop at bs) i 0 within, get_or-drop at bs i 0) (fits (at + i))
-  | inr past ↦ rw (get_or_past (take n (drop at bs)) i 0 (omega (arith, length-take n (drop at bs)))) (omega arith)
-]
+part_fits bs fits n at i = grind (arith, fits, get_or-take, get_or-drop, get_or_past, length-take)
 
 number_fits : (bs : List ℕ) → ((i : ℕ) → get_or bs i 0 < 256) → (at : ℕ) → number_at w32 bs at < 2 ^ 32
 number_fits bs fits at = let part = part_fits bs fits 4 at in omega (arith, part 0, part 1, part 2, part 3)

@@ -18,9 +18,7 @@ module _ (entry : Link → List ℕ) (c : ℕ) (each : (l : Link) → length (en
   pub length_entries : (ps : List (Option Link)) → length (entries entry ps) ≡ c * length ps
   length_entries [] = sym (mul-zero c)
   length_entries (p ∷ ps) =
-      let here = each (link_of p) in
-      let rest = length_entries ps in
-      length-append (entry (link_of p)) (entries entry ps) ∙ omega (arith, mul-suc c (length ps))
+      grind (arith, length-append, each (link_of p), length_entries ps, mul-suc c (length ps))
 
   pub drop_entries : (k : ℕ) (ps : List (Option Link)) → k ≤ length ps → drop (c * k) (entries entry ps) ≡ entries entry (drop k ps)
   drop_entries zero ps h = ap (λ n. drop n (entries entry ps)) (mul-zero c)
