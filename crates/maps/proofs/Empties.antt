@@ -1,7 +1,6 @@
 -- What it means that no place is empty.
-use Rattle.std.proofs.Common.{◌≡◌, ℕ, zero, suc, ◌+◌, ◌<◌, ◌≤◌, Bool, true, false, cond, not, List, length, is_some, Some, None, Option, refl, ap, ◌∙◌, inl, inr, arith}
+use Rattle.std.proofs.Common.{◌≡◌, ℕ, zero, suc, ◌+◌, ◌<◌, ◌≤◌, Bool, true, false, cond, not, List, length, is_some, Some, None, Option, refl, arith}
 use Rattle.std.specs.List.{find, range_with_len}
-use Rattle.std.proofs.lemmas.Bool.{cases_eq}
 use Rattle.definitions.specs.declared.Link.{Link}
 use Rattle.definitions.specs.Networks.{place}
 use Rattle.maps.specs.Writes.{first_empty, link_of}
@@ -18,7 +17,7 @@ none_found p a (suc n) e k low high =
 pub nothing_found : (p : ℕ → Bool) (a n : ℕ) → ((k : ℕ) → a ≤ k → k < a + n → p k ≡ false) → find p (range_with_len a n) ≡ None
 nothing_found p a zero none = refl
 nothing_found p a (suc n) none =
-    ap (λ b. cond b (Some a) (find p (range_with_len (a + 1) n))) (none a (omega arith) (omega arith)) ∙ nothing_found p (a + 1) n (λ k low high. none k (omega arith) (omega arith))
+    grind (arith, none a, nothing_found p (a + 1) n (λ k low high. none k (omega arith) (omega arith)))
 
 is_link : (p : Option Link) → not (is_some p) ≡ false → p ≡ Some (link_of p)
 is_link (Some l) e = refl

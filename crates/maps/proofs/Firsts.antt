@@ -1,15 +1,14 @@
 -- The first fault of a row: one step of the search, and what it means that there is none.
-use Rattle.std.proofs.Common.{◌≡◌, ℕ, zero, suc, ◌+◌, ◌-◌, ◌*◌, ◌^◌, ◌<◌, ◌≤◌, true, false, List, length, get_or, take, drop, is_err, Some, None, Option, Result, sym, refl, ap, ◌∙◌, subst, inl, inr, arith}
+use Rattle.std.proofs.Common.{◌≡◌, ℕ, zero, suc, ◌+◌, ◌-◌, ◌*◌, ◌^◌, ◌<◌, ◌≤◌, List, length, get_or, take, drop, Some, None, Option, sym, refl, ap, ◌∙◌, subst, inl, inr, arith}
 use Rattle.std.specs.Option.{option_map, option_or}
 use Rattle.maps.specs.declared.fault.MapFault.{MapFault}
 use Rattle.std.proofs.lemmas.Bool.Decides.{nat_tests}
-use Rattle.std.proofs.lemmas.Bool.{cases_eq, cases_lt}
+use Rattle.std.proofs.lemmas.Bool.{cases_lt}
 use Rattle.std.proofs.lemmas.List.FromFn.{length-map-range_with_len, get_or-map-range_with_len}
 use Rattle.std.specs.Int.{w32}
 use Rattle.std.proofs.lemmas.List.{get_or_past, get_or-take, get_or-drop, length-take}
 use Rattle.networks.specs.declared.draft.DraftFault.{DraftFault}
 use Rattle.definitions.specs.Networks.{AllSound, Sound, place}
-use Rattle.networks.specs.Drafts.{answered}
 use Rattle.maps.specs.Maps.{number_at, node_count, link_count, link_at, mapped}
 use Rattle.maps.specs.declared.fault.MapFault.TheVariants.{BadLink}
 use Rattle.maps.specs.Faults.{link_byte}

@@ -3,17 +3,15 @@ use Rattle.std.proofs.Common.{◌≡◌, ℕ, zero, suc, ◌+◌, ◌*◌, ◌<�
 use Rattle.std.specs.Int.{w16, w32, to_be_bytes}
 use Rattle.std.specs.List.{range_with_len, flat_map}
 use Rattle.std.proofs.lemmas.Bool.Decides.{nat_tests}
-use Rattle.std.proofs.lemmas.List.FromFn.{length-map-range_with_len}
 use Rattle.std.proofs.lemmas.List.{drop-drop, take_all, length-drop, length-take-le}
 use Rattle.std.proofs.lemmas.Nat.{be_bytes_2, be_bytes_4}
 use Rattle.definitions.specs.declared.Link.{Link}
-use Rattle.std.specs.Option.{option_or}
 use Rattle.maps.specs.declared.fault.MapFault.{MapFault}
-use Rattle.maps.specs.declared.fault.MapFault.TheVariants.{Nodes, SmallBuffer}
+use Rattle.maps.specs.declared.fault.MapFault.TheVariants.{SmallBuffer}
 use Rattle.definitions.specs.Networks.{Net, place}
 use Rattle.maps.specs.Maps.{number_at, node_count, link_count, link_at, mapped}
 use Rattle.maps.specs.Checks.{size_fault, map_fault}
-use Rattle.maps.specs.Writes.{ends, attributes, link_of, entries, sizes, map_bytes, map_length, first_empty, unless_empty, writable, written, Rewritten}
+use Rattle.maps.specs.Writes.{ends, attributes, link_of, entries, sizes, map_bytes, map_length, first_empty, writable, written, Rewritten}
 use Rattle.maps.proofs.Firsts.{sizes_right, no_size_fault, part_fits, place_within, mapped_places}
 use Rattle.maps.proofs.Empties.{nothing_found}
 
@@ -84,10 +82,7 @@ writable_map bs room none =
     let count = mapped_places bs in
     let size = no_size_fault bs none in
     let need : map_length (mapped bs) ≡ length bs = omega (arith, count, (sizes_right bs size).2) in
-    let answer : ℕ → Result ℕ MapFault = λ k. cond (ltb room k) (Err (SmallBuffer k)) (Ok k) in
-    ap (λ b. cond b (Err (Nodes 0)) (unless_empty (first_empty (mapped bs).places) (answer (map_length (mapped bs))))) (has_node bs size)
-    ∙ ap (λ o. unless_empty o (answer (map_length (mapped bs)))) (none_empty bs)
-    ∙ ap answer need
+    rw (has_node bs size, none_empty bs, need) refl
 
 by_room : (bs old new : List ℕ) (b : Bool) (r : Result ℕ MapFault) → b ≡ ltb (length old) (length bs) → map_fault bs ≡ None → r ≡ cond b (Err (SmallBuffer (length bs))) (Ok (length bs)) → new ≡ written (mapped bs) old r → map_bytes (mapped bs) ≡ bs → Rewritten bs old new r
 by_room bs old new true (Ok len) test none r wrote same = grind arith

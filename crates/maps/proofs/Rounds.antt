@@ -1,5 +1,5 @@
 -- A map that was written reads back: it has no fault, and means the network.
-use Rattle.std.proofs.Common.{◌≡◌, ℕ, zero, suc, ◌+◌, ◌*◌, ◌<◌, ◌≤◌, Bool, true, false, cond, eqb, ltb, List, ◌++◌, map, length, take, drop, Some, None, Ok, Err, Option, sym, refl, ap, ◌∙◌, arith}
+use Rattle.std.proofs.Common.{◌≡◌, ℕ, zero, suc, ◌+◌, ◌*◌, ◌<◌, ◌≤◌, cond, eqb, ltb, List, ◌++◌, map, length, take, drop, Some, None, Ok, Err, Option, sym, refl, ap, ◌∙◌, arith}
 use Rattle.std.specs.Int.{Width, w16, w32, byte_len, from_be_bytes}
 use Rattle.std.specs.List.{range_with_len}
 use Rattle.std.proofs.lemmas.Nat.{from_be_bytes-to_be_bytes_2, from_be_bytes-to_be_bytes_4}
@@ -7,10 +7,10 @@ use Rattle.std.proofs.lemmas.Bool.Decides.{nat_tests}
 use Rattle.std.proofs.lemmas.List.FromFn.{fill_by_all}
 use Rattle.std.proofs.lemmas.List.{drop-drop, drop-append-le, drop_at, drop_more, length-append, take_at}
 use Rattle.definitions.specs.declared.Link.{Link}
-use Rattle.std.specs.Option.{option_map, option_or}
+use Rattle.std.specs.Option.{option_map}
 use Rattle.maps.specs.declared.fault.MapFault.{MapFault}
-use Rattle.maps.specs.declared.fault.MapFault.TheVariants.{Nodes, BadLink, EmptyPlace, SmallBuffer}
-use Rattle.maps.specs.Faults.{byte_of, link_byte}
+use Rattle.maps.specs.declared.fault.MapFault.TheVariants.{Nodes, BadLink, SmallBuffer}
+use Rattle.maps.specs.Faults.{link_byte}
 use Rattle.definitions.specs.Networks.{Net, Limits, Sound, place}
 use Rattle.networks.specs.Drafts.{refusal}
 use Rattle.maps.specs.Maps.{number_at, node_count, link_count, link_at, mapped}
@@ -68,7 +68,7 @@ refusal_none nodes k l h sound = grind (arith, nat_tests)
 firsts_none : (f : ℕ → Option MapFault) (k n : ℕ) → ((j : ℕ) → k ≤ j → j < k + n → f j ≡ None) → first f k n ≡ None
 firsts_none f k zero none = refl
 firsts_none f k (suc n) none =
-    ap (λ o. option_or o (first f (k + 1) n)) (none k (omega arith) (omega arith)) ∙ firsts_none f (k + 1) n (λ j low high. none j (omega arith) (omega arith))
+    grind (arith, none k, firsts_none f (k + 1) n (λ j low high. none j (omega arith) (omega arith)))
 
 module _ (n : Net) (limits : Limits n) (one : 1 ≤ n.nodes) (full : first_empty n.places ≡ None) where
   nodes_back : node_count (map_bytes n) ≡ n.nodes
@@ -100,8 +100,10 @@ module _ (n : Net) (limits : Limits n) (one : 1 ≤ n.nodes) (full : first_empty
   -- What is written has no fault ..
   pub checks : map_fault (map_bytes n) ≡ None
   checks =
-      ap (λ o. option_or o (first (link_fault (map_bytes n)) 0 (link_count (map_bytes n)))) (sizes_none (map_bytes n) n.nodes (length n.places) nodes_back links_back length_back one limits.few_nodes limits.few_places)
-      ∙ firsts_none (link_fault (map_bytes n)) 0 (link_count (map_bytes n)) (λ j low high. none_back j (omega (arith, links_back)))
+      let bs = map_bytes n in
+      let sizes = sizes_none bs n.nodes (length n.places) nodes_back links_back length_back one limits.few_nodes limits.few_places in
+      let links = firsts_none (link_fault bs) 0 (link_count bs) (λ j low high. none_back j (omega (arith, links_back))) in
+      rw (sizes, links) refl
 
   -- .. and means the network.
   pub means : mapped (map_bytes n) ≡ n
