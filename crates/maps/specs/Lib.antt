@@ -3,4 +3,3 @@ pub mod Maps
 pub mod Checks
 pub mod Reads
 pub mod Writes
-pub mod Opened

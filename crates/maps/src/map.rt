@@ -4,7 +4,6 @@ ghost use Rattle.definitions.specs.Networks.{AllSound};
 ghost use Rattle.maps.specs.Maps.{node_count, link_count, link_at, mapped};
 ghost use Rattle.networks.specs.Drafts.{answered};
 ghost use Rattle.maps.specs.Checks.{link_fault, first, map_fault, opened};
-ghost use Rattle.maps.specs.Reads.{mapped_limits};
 
 use crate::fault::MapFault;
 use definitions::Link;
@@ -87,7 +86,7 @@ impl<'a> Framed<'a> {
 impl<'a> TryFrom<&'a [u8]> for Framed<'a> {
     type Error = MapFault;
 
-    ghost use Rattle.maps.specs.Opened.{HasSizes};
+    ghost use Rattle.maps.specs.Reads.{HasSizes};
 
     ghost try_from_gives = { λ bytes r. HasSizes bytes.now r };
 
@@ -116,7 +115,7 @@ impl<'a> TryFrom<&'a [u8]> for Framed<'a> {
 impl<'a> TryFrom<&'a [u8]> for Map<'a> {
     type Error = MapFault;
 
-    ghost use Rattle.maps.specs.Opened.{IsMap};
+    ghost use Rattle.maps.specs.Reads.{IsMap};
 
     ghost try_from_gives = { λ bytes r. IsMap bytes.now r };
 
@@ -128,6 +127,8 @@ impl<'a> TryFrom<&'a [u8]> for Map<'a> {
 }
 
 impl<'a> Map<'a> {
+    ghost use Rattle.maps.specs.Reads.{network_of};
+
     // Are these bytes a map? The first fault, if not.
     pub fn check(bytes: &[u8]) -> Result<(), MapFault>
         ensures { result ≡ answered (map_fault bytes.now) }
@@ -138,7 +139,7 @@ impl<'a> Map<'a> {
 
     // The network in these bytes, read where they lie; where they are no map, one with no nodes and no places.
     pub fn open(bytes: &'a [u8]) -> Map<'a>
-        ensures { mapped result.framed.bytes.now ≡ opened bytes.now }
+        ensures { network_of result ≡ opened bytes.now }
     {
         Map::try_from(bytes).unwrap_or(Map {
             framed: Framed { bytes: EMPTY },
@@ -150,9 +151,11 @@ impl<'a> Map<'a> {
 const EMPTY: &[u8] = &[0, 0, 0, 0];
 
 impl<'a> Network for Map<'a> {
-    ghost meaning = { λ s. mapped s.framed.bytes.now };
+    ghost use Rattle.maps.specs.Reads.{network_of, map_limits};
 
-    ghost limits = { λ s. mapped_limits s.framed.bytes.now s.framed.few s.framed.short s.sound };
+    ghost meaning = { network_of };
+
+    ghost limits = { map_limits };
 
     fn node_count(&self) -> usize {
         self.framed.node_count()
