@@ -76,6 +76,7 @@ impl<'a> Framed<'a> {
     fn check_links(&self) -> Result<(), MapFault>
         ensures { result ≡ answered (first (link_fault self.now.bytes.now) 0 (link_count self.now.bytes.now)) }
     {
+        // Stays a loop: it is as plain as `try_for_each`, of whose result the library has no lemma.
         for k in 0..self.link_count() {
             self.check_link(k)?;
         }
