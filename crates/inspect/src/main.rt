@@ -2,12 +2,11 @@
 // says the best delay and the best width from every node to that one.
 #![tactic(auto)]
 
-use frontier::lists::at;
+use definitions::{FaultCode, GROUP_COUNT};
 use maps::fault::MapFault;
 use maps::map::Map;
 use maps::writing::rewrite;
 use measures::{Delay, Measure, Width};
-use networks::draft::DraftFault;
 use networks::network::Network;
 use search::tables::{Workspace, plain_values};
 use std::io::Read;
@@ -28,54 +27,37 @@ fn read_map(rt: &HostRuntime) -> io::Result<Vec<u8>> {
     Ok(bytes)
 }
 
-// What a fault means, in words.
-fn explain(fault: MapFault) -> &'static str {
-    match fault {
-        MapFault::TooShort(_) => "a map has at least four bytes",
-        MapFault::Nodes(_) => "the node count is not 1 to 256",
-        MapFault::Links(_) => "the link count is above 1,024",
-        MapFault::WrongLength(_) => "a map has 4 bytes and 12 for each link",
-        MapFault::BadLink(DraftFault::TailBeyond(_), _) =>
-            "the tail of this link is not below the node count",
-        MapFault::BadLink(DraftFault::HeadBeyond(_), _) =>
-            "the head of this link is not below the node count",
-        MapFault::BadLink(DraftFault::SameEnds(_), _) => "this link leads from a node to itself",
-        MapFault::BadLink(_, _) => "no draft would take this link",
-        MapFault::EmptyPlace(_) => "this place holds no link",
-        MapFault::SmallBuffer(_) => "the buffer does not hold the map",
-    }
-}
-
 fn print_fault(rt: &HostRuntime, fault: MapFault) -> io::Result<()> {
-    let code = fault.code();
+    let FaultCode {
+        layer,
+        number,
+        place,
+    } = FaultCode::from(fault);
     let byte = fault.byte();
-    let why = explain(fault);
     println!(rt;
-        "net.map holds no map: layer {}, number {}, place {}, byte {byte}.",
-        code.layer, code.number, code.place
+        "net.map holds no map: layer {layer}, number {number}, place {place}, byte {byte}."
     )?;
-    println!(rt; "That means: {why}.")
+    println!(rt; "That means: {fault}.")
 }
 
 // Which risk groups are in use, and by how many links.
 fn print_groups(rt: &HostRuntime, map: &Map) -> io::Result<()> {
-    let mut unused = true;
-    for group in 0..32 {
-        let links = count_links(map, Selection::InGroup(group));
+    let links_in = |group| count_links(map, Selection::InGroup(group));
+    if (0..GROUP_COUNT).all(|group| links_in(group) == 0) {
+        return println!(rt; "No link belongs to a risk group.");
+    }
+    for group in 0..GROUP_COUNT {
+        let links = links_in(group);
         if links > 0 {
-            unused = false;
             println!(rt; "Risk group {group}: {links} links.")?;
         }
-    }
-    if unused {
-        println!(rt; "No link belongs to a risk group.")?;
     }
     Ok(())
 }
 
 // Which nodes have no link out, and which none in.
-fn print_ends(rt: &HostRuntime, map: &Map, nodes: u16) -> io::Result<()> {
-    for node in 0..nodes {
+fn print_ends(rt: &HostRuntime, map: &Map) -> io::Result<()> {
+    for node in 0..map.node_count() as u16 {
         if count_links(map, Selection::From(node)) == 0 {
             println!(rt; "Node {node} has no link out.")?;
         }
@@ -110,8 +92,8 @@ fn print_values<M: Measure>(
     if !plain_values::<Map, M>(map, destination, &mut values, &mut workspace) {
         return println!(rt; "There is no node {destination}.");
     }
-    for node in 0..map.node_count() {
-        match at(&values, node) {
+    for (node, value) in values.iter().take(map.node_count()).enumerate() {
+        match value {
             Some(value) => println!(rt;
                 "Best {name} from node {node} to node {destination}: {value}."
             )?,
@@ -123,9 +105,7 @@ fn print_values<M: Measure>(
 
 // The best values to the node that the argument names, if there is one.
 fn print_argument(rt: &HostRuntime, map: &Map) -> io::Result<()> {
-    let mut words = env::args(rt)?;
-    let _ = words.next();
-    let Some(word) = words.next() else {
+    let Some(word) = env::args(rt)?.nth(1) else {
         return Ok(());
     };
     match word.parse::<u16>() {
@@ -137,20 +117,23 @@ fn print_argument(rt: &HostRuntime, map: &Map) -> io::Result<()> {
     }
 }
 
+// What network the map holds.
+fn print_map(rt: &HostRuntime, map: &Map, length: usize) -> io::Result<()> {
+    let nodes = map.node_count();
+    let links = count_links(map, Selection::All);
+    println!(rt; "net.map holds a map of {nodes} nodes and {links} links in {length} bytes.")?;
+    print_groups(rt, map)?;
+    print_ends(rt, map)
+}
+
 fn main(rt: HostRuntime) -> io::Result<()> {
     let bytes = read_map(&rt)?;
-    if let Err(fault) = Map::check(&bytes) {
-        return print_fault(&rt, fault);
+    match Map::try_from(bytes.as_slice()) {
+        Ok(map) => {
+            print_map(&rt, &map, bytes.len())?;
+            print_copy(&rt, &bytes)?;
+            print_argument(&rt, &map)
+        }
+        Err(fault) => print_fault(&rt, fault),
     }
-    let map = Map::open(&bytes);
-    let nodes = map.node_count();
-    let links = count_links(&map, Selection::All);
-    let length = bytes.len();
-    println!(rt; "net.map holds a map of {nodes} nodes and {links} links in {length} bytes.")?;
-    print_groups(&rt, &map)?;
-    if let Ok(nodes) = u16::try_from(nodes) {
-        print_ends(&rt, &map, nodes)?;
-    }
-    print_copy(&rt, &bytes)?;
-    print_argument(&rt, &map)
 }

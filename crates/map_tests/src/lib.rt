@@ -74,20 +74,19 @@ mod tests {
     #[test]
     fn damaged_maps(rt: HostRuntime) -> Result<(), Fail> {
         for (bytes, layer, number, place, byte) in DAMAGED {
-            match Map::check(bytes) {
-                Ok(()) => return Err(Fail::new("a damaged map passed")),
-                Err(fault) => {
-                    assert_eq!(rt;
-                        fault.code(),
-                        FaultCode {
-                            layer,
-                            number,
-                            place,
-                        }
-                    );
-                    assert_eq!(rt; fault.byte(), byte);
+            let Err(fault) = Map::check(bytes) else {
+                return Err(Fail::new("a damaged map passed"));
+            };
+            assert_eq!(rt;
+                FaultCode::from(fault),
+                FaultCode {
+                    layer,
+                    number,
+                    place,
                 }
-            }
+            );
+            assert_eq!(rt; fault.byte(), byte);
+            assert!(rt; Map::try_from(bytes).is_err());
             let map = Map::open(bytes);
             assert_eq!(rt; map.node_count(), 0);
             assert_eq!(rt; map.place_count(), 0);
@@ -96,12 +95,24 @@ mod tests {
     }
 
     #[test]
-    fn smallest_maps(rt: HostRuntime) {
+    fn smallest_maps(rt: HostRuntime) -> Result<(), Fail> {
         assert_eq!(rt; Map::check(&[0, 1, 0, 0]), Ok(()));
         assert_eq!(rt; Map::check(&[1, 0, 0, 0]), Ok(()));
-        let map = Map::open(&[1, 0, 0, 0]);
+        let map = Map::try_from([1, 0, 0, 0].as_slice())?;
         assert_eq!(rt; map.node_count(), 256);
-        assert!(rt; map.place(0).is_none());
+        assert_eq!(rt; map.place(0), None);
+        assert_eq!(rt; Map::open(&[1, 0, 0, 0]).node_count(), 256);
+        Ok(())
+    }
+
+    // A link without groups.
+    fn link(tail: u16, head: u16, figure: u32) -> Link {
+        Link {
+            tail,
+            head,
+            figure,
+            groups: 0,
+        }
     }
 
     // A draft with two nodes and this many links from 0 to 1.
@@ -109,12 +120,7 @@ mod tests {
         let mut draft = Draft::new(heap);
         draft.size(2)?;
         for _ in 0..links {
-            draft.add(Link {
-                tail: 0,
-                head: 1,
-                figure: 0,
-                groups: 0,
-            })?;
+            draft.add(link(0, 1, 0))?;
         }
         Ok(draft)
     }
@@ -122,15 +128,7 @@ mod tests {
     #[test]
     fn full_draft(rt: HostRuntime) -> Result<(), Fail> {
         let mut draft = parallel_links(rt.alloc(), 1024)?;
-        assert_eq!(rt;
-            draft.add(Link {
-                tail: 9,
-                head: 9,
-                figure: 0,
-                groups: 0,
-            }),
-            Err(DraftFault::Full(1024))
-        );
+        assert_eq!(rt; draft.add(link(9, 9, 0)), Err(DraftFault::Full(1024)));
         let book = draft.close();
         assert_eq!(rt; book.place_count(), 1024);
         let mut out = vec![in rt.alloc(); 7u8; 12_293]?;
@@ -151,62 +149,17 @@ mod tests {
         let mut draft = Draft::new(rt.alloc());
         assert_eq!(rt; draft.size(0), Err(DraftFault::NodeCount(0)));
         assert_eq!(rt; draft.size(257), Err(DraftFault::NodeCount(257)));
-        assert_eq!(rt;
-            draft.add(Link {
-                tail: 0,
-                head: 1,
-                figure: 1,
-                groups: 0,
-            }),
-            Err(DraftFault::TailBeyond(0))
-        );
+        assert_eq!(rt; draft.add(link(0, 1, 1)), Err(DraftFault::TailBeyond(0)));
         assert_eq!(rt; draft.size(256), Ok(()));
+        assert_eq!(rt; draft.add(link(255, 0, 1)), Ok(0));
         assert_eq!(rt;
-            draft.add(Link {
-                tail: 255,
-                head: 0,
-                figure: 1,
-                groups: 0,
-            }),
-            Ok(0)
-        );
-        assert_eq!(rt;
-            draft.add(Link {
-                tail: 256,
-                head: 256,
-                figure: 1,
-                groups: 0,
-            }),
+            draft.add(link(256, 256, 1)),
             Err(DraftFault::TailBeyond(1))
         );
-        assert_eq!(rt;
-            draft.add(Link {
-                tail: 0,
-                head: 256,
-                figure: 1,
-                groups: 0,
-            }),
-            Err(DraftFault::HeadBeyond(1))
-        );
-        assert_eq!(rt;
-            draft.add(Link {
-                tail: 4,
-                head: 4,
-                figure: 1,
-                groups: 0,
-            }),
-            Err(DraftFault::SameEnds(1))
-        );
+        assert_eq!(rt; draft.add(link(0, 256, 1)), Err(DraftFault::HeadBeyond(1)));
+        assert_eq!(rt; draft.add(link(4, 4, 1)), Err(DraftFault::SameEnds(1)));
         let mut again = draft.close().reopen();
-        assert_eq!(rt;
-            again.add(Link {
-                tail: 0,
-                head: 255,
-                figure: 1,
-                groups: 0,
-            }),
-            Ok(1)
-        );
+        assert_eq!(rt; again.add(link(0, 255, 1)), Ok(1));
         assert_eq!(rt; again.size(1), Ok(()));
         let book = again.close();
         assert_eq!(rt; book.node_count(), 1);
@@ -215,21 +168,16 @@ mod tests {
 
     // Three nodes: a link with the largest figure and all groups, and one with figure 0 and no group.
     fn extremes(heap: Global) -> Result<Book, Fail> {
-        let mut draft = Draft::new(heap);
-        draft.size(3)?;
-        draft.add(Link {
-            tail: 0,
-            head: 1,
-            figure: 4_294_967_295,
-            groups: 4_294_967_295,
-        })?;
-        draft.add(Link {
-            tail: 2,
-            head: 1,
-            figure: 0,
-            groups: 0,
-        })?;
-        Ok(draft.close())
+        let links = [
+            Link {
+                tail: 0,
+                head: 1,
+                figure: 4_294_967_295,
+                groups: 4_294_967_295,
+            },
+            link(2, 1, 0),
+        ];
+        Ok(Book::from_links(heap, 3, &links)?)
     }
 
     #[test]

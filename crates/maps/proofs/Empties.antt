@@ -1,37 +1,34 @@
--- The first empty place: one step of the search, and what it means that there is none.
-use Rattle.std.proofs.Common.{◌≡◌, ℕ, zero, suc, ◌+◌, ◌<◌, ◌≤◌, true, false, List, [], ◌∷◌, length, get_or, drop, is_some, Some, None, Option, sym, refl, ap, ◌∙◌, arith}
-use Rattle.std.proofs.lemmas.List.{at_drop_more, at_drop_all}
+-- What it means that no place is empty.
+use Rattle.std.proofs.Common.{◌≡◌, ℕ, zero, suc, ◌+◌, ◌<◌, ◌≤◌, Bool, true, false, cond, not, List, length, is_some, Some, None, Option, refl, arith}
+use Rattle.std.specs.List.{find, range_with_len}
 use Rattle.definitions.specs.declared.Link.{Link}
+use Rattle.definitions.specs.Networks.{place}
 use Rattle.maps.specs.Writes.{first_empty, link_of}
 
-at_none : (k : ℕ) (ps : List (Option Link)) (p : Option Link) → is_some p ≡ false → first_empty k (p ∷ ps) ≡ Some k
-at_none k ps None e = refl
-at_none k ps (Some l) e = let z : ◌≡◌ {A = ℕ} 0 1 = cc in absurd (omega arith)
+passed : (b : Bool) (k : ℕ) (o : Option ℕ) → cond b (Some k) o ≡ None → (b ≡ false) × (o ≡ None)
+passed false k o e = (refl, e)
+passed true k o e = grind arith
 
-at_some : (k : ℕ) (ps : List (Option Link)) (p : Option Link) → is_some p ≡ true → first_empty k (p ∷ ps) ≡ first_empty (k + 1) ps
-at_some k ps (Some l) e = refl
-at_some k ps None e = let z : ◌≡◌ {A = ℕ} 0 1 = cc in absurd (omega arith)
+none_found : (p : ℕ → Bool) (a n : ℕ) → find p (range_with_len a n) ≡ None → (k : ℕ) → a ≤ k → k < a + n → p k ≡ false
+none_found p a zero e k low high = absurd (omega arith)
+none_found p a (suc n) e k low high =
+    grind (arith, passed (p a) a (find p (range_with_len (a + 1) n)) e, none_found p (a + 1) n)
 
-pub empty_here : (ps : List (Option Link)) (k : ℕ) (p : Option Link) (r : Option ℕ) → k < length ps → first_empty k (drop k ps) ≡ r → p ≡ get_or ps k None → is_some p ≡ false → Some k ≡ r
-empty_here ps k p r h e here none =
-    sym (at_none k (drop (k + 1) ps) p none) ∙ ap (λ q. first_empty k (q ∷ drop (k + 1) ps)) here ∙ sym (at_drop_more (first_empty k) ps k None h) ∙ e
+pub nothing_found : (p : ℕ → Bool) (a n : ℕ) → ((k : ℕ) → a ≤ k → k < a + n → p k ≡ false) → find p (range_with_len a n) ≡ None
+nothing_found p a zero none = refl
+nothing_found p a (suc n) none =
+    grind (arith, none a, nothing_found p (a + 1) n (λ k low high. none k (omega arith) (omega arith)))
 
-pub empty_next : (ps : List (Option Link)) (k : ℕ) (p : Option Link) (r : Option ℕ) → k < length ps → first_empty k (drop k ps) ≡ r → p ≡ get_or ps k None → is_some p ≡ true → first_empty (k + 1) (drop (k + 1) ps) ≡ r
-empty_next ps k p r h e here some =
-    sym (at_some k (drop (k + 1) ps) p some) ∙ ap (λ q. first_empty k (q ∷ drop (k + 1) ps)) here ∙ sym (at_drop_more (first_empty k) ps k None h) ∙ e
-
-pub empty_end : (ps : List (Option Link)) (k : ℕ) (r : Option ℕ) → length ps ≤ k → first_empty k (drop k ps) ≡ r → None ≡ r
-empty_end ps k r h e = sym (at_drop_all (first_empty k) ps k h) ∙ e
+is_link : (p : Option Link) → not (is_some p) ≡ false → p ≡ Some (link_of p)
+is_link (Some l) e = refl
+is_link None e = grind arith
 
 -- Where no place is empty, each holds a link.
-pub full_at : (j : ℕ) (ps : List (Option Link)) → first_empty j ps ≡ None → (k : ℕ) → k < length ps → get_or ps k None ≡ Some (link_of (get_or ps k None))
-full_at j [] e k h = absurd (omega arith)
-full_at j (None ∷ ps) e k h = let z : ◌≡◌ {A = ℕ} 0 1 = cc in absurd (omega arith)
-full_at j (Some l ∷ ps) e zero h = refl
-full_at j (Some l ∷ ps) e (suc k) h = full_at (j + 1) ps e k (omega arith)
+pub full_at : (ps : List (Option Link)) → first_empty ps ≡ None → (k : ℕ) → k < length ps → place ps k ≡ Some (link_of (place ps k))
+full_at ps e k h = is_link (place ps k) (none_found (λ j. not (is_some (place ps j))) 0 (length ps) e k (omega arith) (omega arith))
 
 -- Where no place is empty, a place within is not.
-pub never_empty : {X : Type 0} (ps : List (Option Link)) (k : ℕ) → first_empty 0 ps ≡ None → k < length ps → None ≡ get_or ps k None → X
+pub never_empty : {X : Type 0} (ps : List (Option Link)) (k : ℕ) → first_empty ps ≡ None → k < length ps → None ≡ place ps k → X
 never_empty ps k full h none =
-    let some = full_at 0 ps full k h in
-    let z : ◌≡◌ {A = ℕ} 0 1 = cc in absurd (omega arith)
+    let some = full_at ps full k h in
+    grind arith

@@ -1,5 +1,5 @@
 -- Layer, number, place and byte of each fault of a map.
-use Rattle.std.specs.Prelude.{ℕ, ◌+◌, ◌*◌}
+use Rattle.std.specs.Prelude.{ℕ, ◌+◌, ◌*◌, List, codes}
 use Rattle.definitions.specs.declared.FaultCode.{FaultCode}
 use Rattle.networks.specs.declared.draft.DraftFault.{DraftFault}
 use Rattle.networks.specs.declared.draft.DraftFault.TheVariants.{NodeCount, Full, TailBeyond, HeadBeyond, SameEnds, NoMemory}
@@ -38,3 +38,18 @@ byte_of (WrongLength n) = n
 byte_of (BadLink _ at) = at
 byte_of (EmptyPlace _) = 0
 byte_of (SmallBuffer _) = 0
+
+-- What a fault means, in words.
+abbrev pub fault_words : MapFault → List ℕ
+fault_words (TooShort _) = codes "a map has at least four bytes"
+fault_words (Nodes _) = codes "the node count is not 1 to 256"
+fault_words (Links _) = codes "the link count is above 1,024"
+fault_words (WrongLength _) = codes "a map has 4 bytes and 12 for each link"
+fault_words (BadLink (TailBeyond _) _) = codes "the tail of this link is not below the node count"
+fault_words (BadLink (HeadBeyond _) _) = codes "the head of this link is not below the node count"
+fault_words (BadLink (SameEnds _) _) = codes "this link leads from a node to itself"
+fault_words (BadLink (NodeCount _) _) = codes "no draft would take this link"
+fault_words (BadLink (Full _) _) = codes "no draft would take this link"
+fault_words (BadLink NoMemory _) = codes "no draft would take this link"
+fault_words (EmptyPlace _) = codes "this place holds no link"
+fault_words (SmallBuffer _) = codes "the buffer does not hold the map"

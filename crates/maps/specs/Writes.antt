@@ -1,53 +1,44 @@
 -- The bytes of a network's map, and what writing them answers.
-use Rattle.std.specs.Prelude.{◌≡◌, ℕ, ◌+◌, ◌*◌, ◌/◌, ◌%◌, cond, List, [], ◌∷◌, ◌++◌, length, take, drop, Some, None, Ok, Err, Option, Result, ◌==◌, nat_lt}
-use Rattle.std.specs.List.{flat_map}
+use Rattle.std.specs.Prelude.{◌≡◌, ℕ, ◌+◌, ◌*◌, cond, not, List, ◌++◌, length, take, drop, is_some, Some, None, Ok, Err, Option, Result, ◌==◌, nat_lt}
+use Rattle.std.specs.Option.{option_or}
+use Rattle.std.specs.Int.{w16, w32, to_be_bytes}
+use Rattle.std.specs.List.{find, flat_map, range_with_len}
 use Rattle.definitions.specs.declared.Link.{Link}
 use Rattle.maps.specs.declared.fault.MapFault.{MapFault}
 use Rattle.maps.specs.declared.fault.MapFault.TheVariants.{Nodes, EmptyPlace, SmallBuffer}
-use Rattle.definitions.specs.Networks.{Net}
+use Rattle.definitions.specs.Networks.{Net, place}
 use Rattle.maps.specs.Faults.{byte_of}
-use Rattle.maps.specs.Checks.{or_else, map_fault, opened}
+use Rattle.maps.specs.Checks.{map_fault, opened}
 
--- A number in two bytes and in four, the high byte first.
-abbrev pub bytes16 : ℕ → List ℕ
-bytes16 n = n / 256 % 256 ∷ n % 256 ∷ []
-
-abbrev pub bytes32 : ℕ → List ℕ
-bytes32 n = n / 16777216 % 256 ∷ n / 65536 % 256 ∷ n / 256 % 256 ∷ n % 256 ∷ []
-
--- A link's entries in the two arrays of a map.
+-- A link's entries in the two arrays of a map. All numbers have the high byte first.
 abbrev pub ends : Link → List ℕ
-ends l = bytes16 l.tail ++ bytes16 l.head
+ends l = to_be_bytes w16 l.tail ++ to_be_bytes w16 l.head
 
 abbrev pub attributes : Link → List ℕ
-attributes l = bytes32 l.figure ++ bytes32 l.groups
+attributes l = to_be_bytes w32 l.figure ++ to_be_bytes w32 l.groups
 
 -- The link of a place; an empty one, which no map has, counts as zeros.
 abbrev pub link_of : Option Link → Link
 link_of (Some l) = l
 link_of None = record { tail = 0; head = 0; figure = 0; groups = 0 }
 
-abbrev pub ends_in : Option Link → List ℕ
-ends_in p = ends (link_of p)
-
-abbrev pub attributes_in : Option Link → List ℕ
-attributes_in p = attributes (link_of p)
+-- An array of a map: the entry of each place's link, one behind the other.
+abbrev pub entries : (Link → List ℕ) → List (Option Link) → List ℕ
+entries entry ps = flat_map (λ p. entry (link_of p)) ps
 
 -- The map of a network: node count, link count, then the two arrays.
 abbrev pub sizes : Net → List ℕ
-sizes n = bytes16 n.nodes ++ bytes16 (length n.places)
+sizes n = to_be_bytes w16 n.nodes ++ to_be_bytes w16 (length n.places)
 
 abbrev pub map_bytes : Net → List ℕ
-map_bytes n = sizes n ++ (flat_map ends_in n.places ++ flat_map attributes_in n.places)
+map_bytes n = sizes n ++ (entries ends n.places ++ entries attributes n.places)
 
 abbrev pub map_length : Net → ℕ
 map_length n = 4 + 12 * length n.places
 
--- The first empty place, where the first of these has number k.
-abbrev pub first_empty : ℕ → List (Option Link) → Option ℕ
-first_empty k [] = None
-first_empty k (None ∷ ps) = Some k
-first_empty k (Some l ∷ ps) = first_empty (k + 1) ps
+-- The first empty place.
+abbrev pub first_empty : List (Option Link) → Option ℕ
+first_empty ps = find (λ k. not (is_some (place ps k))) (range_with_len 0 (length ps))
 
 abbrev pub unless_empty : Option ℕ → Result ℕ MapFault → Result ℕ MapFault
 unless_empty (Some k) next = Err (EmptyPlace k)
@@ -57,7 +48,7 @@ unless_empty None next = next
 abbrev pub writable : Net → ℕ → Result ℕ MapFault
 writable n room =
     cond (n.nodes == 0) (Err (Nodes 0))
-    (unless_empty (first_empty 0 n.places)
+    (unless_empty (first_empty n.places)
     (cond (nat_lt room (map_length n)) (Err (SmallBuffer (map_length n))) (Ok (map_length n))))
 
 -- The buffer afterwards: the map and what it held beyond; after a fault, what it held.
@@ -77,7 +68,7 @@ AtByteZero (Err f) = byte_of f ≡ 0
 
 -- The first "no" before a map is read and written again: those of the check, then whether the bytes find room.
 abbrev pub rewrite_fault : List ℕ → ℕ → Option MapFault
-rewrite_fault bs room = or_else (map_fault bs) (cond (nat_lt room (length bs)) (Some (SmallBuffer (length bs))) None)
+rewrite_fault bs room = option_or (map_fault bs) (cond (nat_lt room (length bs)) (Some (SmallBuffer (length bs))) None)
 
 -- A map read and written again is the same bytes.
 abbrev pub Rewritten : List ℕ → List ℕ → List ℕ → Result ℕ MapFault → Type 0

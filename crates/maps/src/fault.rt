@@ -1,10 +1,12 @@
 // Why bytes are no map, and why a network cannot be written as one.
-ghost use Rattle.std.specs.Prelude.{◌≡◌};
+ghost use Rattle.std.specs.Prelude.{◌≡◌, Some};
 ghost use Rattle.maps.specs.declared.fault.MapFault.TheVariants.{BadLink};
-ghost use Rattle.maps.specs.Faults.{link_byte, map_code, byte_of};
+ghost use Rattle.maps.specs.Faults.{link_byte, map_code, byte_of, fault_words};
 
 use definitions::FaultCode;
 use networks::draft::DraftFault;
+use std::error::Error;
+use std::fmt;
 
 // The first five cases are of reading, or of a node count of 0 when writing; each holds the number in question.
 #[derive(Clone, Copy, PartialEq, Eq, Debug)]
@@ -25,19 +27,19 @@ pub enum MapFault {
     SmallBuffer(usize),
 }
 
-impl MapFault {
-    // Layer, number and place of the fault; a link's fault is the draft's own.
-    pub fn code(&self) -> FaultCode
-        ensures { result ≡ map_code self.now }
-    {
-        let (number, place) = match self {
-            MapFault::TooShort(n) => (6, *n),
-            MapFault::Nodes(n) => (1, *n),
-            MapFault::Links(m) => (2, *m),
-            MapFault::WrongLength(n) => (7, *n),
-            MapFault::BadLink(fault, _) => return FaultCode::from(*fault),
-            MapFault::EmptyPlace(k) => (18, *k),
-            MapFault::SmallBuffer(n) => (16, *n),
+// Layer, number and place of the fault; a link's fault is the draft's own.
+impl From<MapFault> for FaultCode {
+    ghost from_gives = { λ e r. r ≡ map_code e };
+
+    fn from(fault: MapFault) -> FaultCode {
+        let (number, place) = match fault {
+            MapFault::TooShort(n) => (6, n),
+            MapFault::Nodes(n) => (1, n),
+            MapFault::Links(m) => (2, m),
+            MapFault::WrongLength(n) => (7, n),
+            MapFault::BadLink(fault, _) => return FaultCode::from(fault),
+            MapFault::EmptyPlace(k) => (18, k),
+            MapFault::SmallBuffer(n) => (16, n),
         };
         FaultCode {
             layer: 2,
@@ -45,7 +47,9 @@ impl MapFault {
             place,
         }
     }
+}
 
+impl MapFault {
     // The byte at which the fault lies; 0 where a map was to be written.
     pub fn byte(&self) -> usize
         ensures { result ≡ byte_of self.now }
@@ -72,3 +76,28 @@ impl From<DraftFault> for MapFault {
         MapFault::BadLink(fault, byte)
     }
 }
+
+// What the fault means, in words.
+impl fmt::Display for MapFault {
+    ghost output = { λ e. Some (fault_words e) };
+
+    fn fmt<W: fmt::Write>(&self, f: &mut fmt::Formatter<W>) -> fmt::Result {
+        f.write_str(match self {
+            MapFault::TooShort(_) => "a map has at least four bytes",
+            MapFault::Nodes(_) => "the node count is not 1 to 256",
+            MapFault::Links(_) => "the link count is above 1,024",
+            MapFault::WrongLength(_) => "a map has 4 bytes and 12 for each link",
+            MapFault::BadLink(DraftFault::TailBeyond(_), _) =>
+                "the tail of this link is not below the node count",
+            MapFault::BadLink(DraftFault::HeadBeyond(_), _) =>
+                "the head of this link is not below the node count",
+            MapFault::BadLink(DraftFault::SameEnds(_), _) =>
+                "this link leads from a node to itself",
+            MapFault::BadLink(_, _) => "no draft would take this link",
+            MapFault::EmptyPlace(_) => "this place holds no link",
+            MapFault::SmallBuffer(_) => "the buffer does not hold the map",
+        })
+    }
+}
+
+impl Error for MapFault {}

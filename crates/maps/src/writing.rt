@@ -1,60 +1,68 @@
 // Networks written as maps.
-ghost use Rattle.std.specs.Prelude.{◌≡◌, ℕ, ◌+◌, ◌*◌, ◌<◌, ◌≤◌, length, None};
+ghost use Rattle.std.specs.Prelude.{◌≡◌, ℕ, ◌+◌, ◌*◌, ◌<◌, ◌≤◌, List, length, None, refl};
 ghost use Rattle.std.proofs.Math.Seq.{paste};
-ghost use Rattle.std.specs.List.{flat_map};
-ghost use Rattle.definitions.specs.Networks.{Net};
-ghost use Rattle.maps.specs.Writes.{bytes16, bytes32, ends, attributes, first_empty, writable, written, ReadsBack, AtByteZero};
-ghost use Rattle.maps.specs.Writes.{ends_in, attributes_in, sizes, map_length, Rewritten};
+ghost use Rattle.definitions.specs.declared.Link.{Link};
+ghost use Rattle.maps.specs.Writes.{ends, attributes, first_empty, writable, written, ReadsBack, AtByteZero};
+ghost use Rattle.maps.specs.Writes.{entries, sizes, Rewritten};
 
 use crate::fault::MapFault;
 use crate::map::Map;
 use definitions::Link;
 use networks::network::Network;
 
-// Writes a number in two bytes, the high byte first.
-fn put16(out: &mut [u8], at: usize, n: u16)
-    requires { at + 2 ≤ length out.old }
-    ensures { out.new ≡ paste out.old at (bytes16 n) 2 }
+// Writes these bytes from `at` on.
+fn put(out: &mut [u8], at: usize, bytes: &[u8])
+    requires { at + length bytes.now ≤ length out.old }
+    ensures { out.new ≡ paste out.old at bytes.now (length bytes.now) }
 {
-    out[at..at + 2].copy_from_slice(&n.to_be_bytes());
+    out[at..at + bytes.len()].copy_from_slice(bytes);
 }
 
-// Writes a number in four bytes, the high byte first.
-fn put32(out: &mut [u8], at: usize, n: u32)
-    requires { at + 4 ≤ length out.old }
-    ensures { out.new ≡ paste out.old at (bytes32 n) 4 }
-{
-    out[at..at + 4].copy_from_slice(&n.to_be_bytes());
+// One of the two arrays of a map: it has an entry of W bytes for each link.
+trait Column<const W: usize> {
+    ghost entry: { Link → List ℕ };
+
+    fn entry(link: Link) -> [u8; W]
+        ensures { result ≡ entry link };
+
+    ghost long: { (l : Link) → length (entry l) ≡ W };
 }
 
-// Writes a link's entry in the first array of a map.
-fn put_ends(out: &mut [u8], at: usize, link: Link)
-    requires { at + 4 ≤ length out.old }
-    ensures { out.new ≡ paste out.old at (ends link) 4 }
-{
-    put16(out, at, link.tail);
-    put16(out, at + 2, link.head);
+// The first array: tails and heads.
+struct Ends;
+
+impl Column<4> for Ends {
+    ghost entry = { ends };
+
+    ghost long = { λ _. refl };
+
+    fn entry(link: Link) -> [u8; 4] {
+        let [a, b] = link.tail.to_be_bytes();
+        let [c, d] = link.head.to_be_bytes();
+        [a, b, c, d]
+    }
 }
 
-// Writes a link's entry in the second array of a map.
-fn put_attributes(out: &mut [u8], at: usize, link: Link)
-    requires { at + 8 ≤ length out.old }
-    ensures { out.new ≡ paste out.old at (attributes link) 8 }
-{
-    put32(out, at, link.figure);
-    put32(out, at + 4, link.groups);
+// The second array: figures and groups.
+struct Attributes;
+
+impl Column<8> for Attributes {
+    ghost entry = { attributes };
+
+    ghost long = { λ _. refl };
+
+    fn entry(link: Link) -> [u8; 8] {
+        let [a, b, c, d] = link.figure.to_be_bytes();
+        let [e, f, g, h] = link.groups.to_be_bytes();
+        [a, b, c, d, e, f, g, h]
+    }
 }
 
 // The first empty place, if any.
 fn first_empty<N: Network>(network: &N) -> Option<usize>
-    ensures { result ≡ first_empty 0 (N.Network.meaning network.now).places }
+    ensures { result ≡ first_empty (N.Network.meaning network.now).places }
 {
-    for k in 0..network.place_count() {
-        if network.place(k).is_none() {
-            return Some(k);
-        }
-    }
-    None
+    (0..network.place_count()).find(|k| network.place(*k).is_none())
 }
 
 // The questions before a map is written into `room` bytes; the length of the map.
@@ -74,36 +82,26 @@ fn writable_len<N: Network>(network: &N, room: usize) -> Result<usize, MapFault>
     Ok(len)
 }
 
-// Writes the node count and the link count.
-fn write_sizes<N: Network>(network: &N, out: &mut [u8])
-    requires { 4 ≤ length out.old }
-    ensures { out.new ≡ paste out.old 0 (sizes (N.Network.meaning network.now)) 4 }
+// The node count and the link count.
+fn sizes<N: Network>(network: &N) -> [u8; 4]
+    ensures { result ≡ sizes (N.Network.meaning network.now) }
 {
-    put16(out, 0, network.node_count() as u16);
-    put16(out, 2, network.place_count() as u16);
+    // Casts: both counts are within the limits, so a conversion has nothing to refuse.
+    let [a, b] = (network.node_count() as u16).to_be_bytes();
+    let [c, d] = (network.place_count() as u16).to_be_bytes();
+    [a, b, c, d]
 }
 
-// Writes the first array of a map: tails and heads.
-fn write_ends<N: Network>(network: &N, out: &mut [u8])
-    requires { (map_length (N.Network.meaning network.now) ≤ length out.old) × (first_empty 0 (N.Network.meaning network.now).places ≡ None) }
-    ensures { out.new ≡ paste out.old 4 (flat_map ends_in (N.Network.meaning network.now).places) (4 * length (N.Network.meaning network.now).places) }
+// Writes an array of a map from `start` on: the entries of the links, one behind the other.
+fn write_column<const W: usize, C: Column<W>, N: Network>(network: &N, out: &mut [u8], start: usize)
+    requires room { start + W * length (N.Network.meaning network.now).places ≤ length out.old }
+    requires full { first_empty (N.Network.meaning network.now).places ≡ None }
+    ensures { out.new ≡ paste out.old start (entries C.Column.entry (N.Network.meaning network.now).places) (W * length (N.Network.meaning network.now).places) }
 {
+    // Each entry by its offset: of chunks lent by `chunks_exact_mut`, a proof does not know what was written.
     for k in 0..network.place_count() {
         if let Some(link) = network.place(k) {
-            put_ends(out, 4 + 4 * k, link);
-        }
-    }
-}
-
-// Writes the second array of a map: figures and groups.
-fn write_attributes<N: Network>(network: &N, out: &mut [u8])
-    requires { (map_length (N.Network.meaning network.now) ≤ length out.old) × (first_empty 0 (N.Network.meaning network.now).places ≡ None) }
-    ensures { out.new ≡ paste out.old (4 + 4 * length (N.Network.meaning network.now).places) (flat_map attributes_in (N.Network.meaning network.now).places) (8 * length (N.Network.meaning network.now).places) }
-{
-    let count = network.place_count();
-    for k in 0..count {
-        if let Some(link) = network.place(k) {
-            put_attributes(out, 4 + 4 * count + 8 * k, link);
+            put(out, start + W * k, &C::entry(link));
         }
     }
 }
@@ -117,9 +115,9 @@ pub fn write<N: Network>(network: &N, out: &mut [u8]) -> Result<usize, MapFault>
     ensures back { ReadsBack (N.Network.meaning network.now) out.new result }
 {
     let len = writable_len(network, out.len())?;
-    write_sizes(network, out);
-    write_ends(network, out);
-    write_attributes(network, out);
+    put(out, 0, &sizes(network));
+    write_column::<4, Ends, N>(network, out, 4);
+    write_column::<8, Attributes, N>(network, out, 4 + 4 * network.place_count());
     Ok(len)
 }
 
@@ -127,6 +125,6 @@ pub fn write<N: Network>(network: &N, out: &mut [u8]) -> Result<usize, MapFault>
 pub fn rewrite(bytes: &[u8], out: &mut [u8]) -> Result<usize, MapFault>
     ensures { Rewritten bytes.now out.old out.new result }
 {
-    Map::check(bytes)?;
-    write(&Map::open(bytes), out)
+    let map = Map::try_from(bytes)?;
+    write(&map, out)
 }

@@ -2,12 +2,13 @@
 #![tactic(auto)]
 
 ghost use Rattle.std.specs.Prelude.{◌≡◌};
-ghost use Rattle.survey.specs.Surveys.{selects, selected};
+ghost use Rattle.survey.specs.Surveys.{is_selected, selected};
 
 use definitions::Link;
 use networks::network::Network;
 
 // The links that a survey counts: all, those of a risk group, those that leave a node, or those that enter it.
+// Stays an enum: a closure in its place would have to be required to be callable, and no public call requires anything.
 #[derive(Clone, Copy)]
 pub enum Selection {
     All,
@@ -16,18 +17,17 @@ pub enum Selection {
     Into(u16),
 }
 
-// Does the place hold a link of the selection?
-fn is_selected(selection: Selection, place: Option<Link>) -> bool
-    ensures { result ≡ selects selection place }
-{
-    let Some(link) = place else {
-        return false;
-    };
-    match selection {
-        Selection::All => true,
-        Selection::InGroup(group) => link.in_group(group),
-        Selection::From(node) => link.tail == node,
-        Selection::Into(node) => link.head == node,
+impl Selection {
+    // Is the link one of the selection?
+    fn contains(self, link: Link) -> bool
+        ensures { result ≡ is_selected self link }
+    {
+        match self {
+            Selection::All => true,
+            Selection::InGroup(group) => link.in_group(group),
+            Selection::From(node) => link.tail == node,
+            Selection::Into(node) => link.head == node,
+        }
     }
 }
 
@@ -35,11 +35,8 @@ fn is_selected(selection: Selection, place: Option<Link>) -> bool
 pub fn count_links<N: Network>(network: &N, selection: Selection) -> usize
     ensures { result ≡ selected selection (N.Network.meaning network.now) }
 {
-    let mut count = 0;
-    for k in 0..network.place_count() {
-        if is_selected(selection, network.place(k)) {
-            count += 1;
-        }
-    }
-    count
+    (0..network.place_count())
+        .filter_map(|k| network.place(k))
+        .filter(|link| selection.contains(*link))
+        .count()
 }

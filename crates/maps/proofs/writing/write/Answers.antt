@@ -1,4 +1,4 @@
-use Rattle.std.proofs.Common.{◌≡◌, length, drop, Ok, sym, ◌∙◌}
+use Rattle.std.proofs.Common.{◌≡◌, length, drop, Ok, sym, ◌∙◌, arith}
 use Rattle.maps.specs.Writes.{writable}
 use Rattle.maps.proofs.Pastes.{all_written}
 use Rattle.maps.proofs.Rounds.{writable_ok, reads_back}
@@ -10,7 +10,7 @@ returns g c =
     let room = length c.args.out.now in
     let len = c.in_ok-len.len in
     let ok : Ok len ≡ writable n room = sym c.in_ok-len.was ∙ c.writable_len.ensures in
-    let bytes = all_written n c.args.out.now _ _ _ len c.write_sizes.ensures c.write_ends.ensures c.write_attributes.ensures (writable_ok n room len ok).2 in
+    let bytes = all_written n c.args.out.now _ _ _ _ _ len c.sizes.ensures c.put.ensures c.write_column.ensures c.write_column-2.ensures (omega arith) (writable_ok n room len ok).2 in
     record {
       value = ok;
       bytes = bytes;
