@@ -1,18 +1,17 @@
 -- What a responder says to lines. `answers s line t said`: to this line it goes from s to t, and says these bytes.
 -- `ended s`: in s it looks at no line any more.
-use Rattle.std.specs.Prelude.{◌≡◌, ℕ, Bool, true, false, List, [], ◌∷◌, ◌++◌, take}
+use Rattle.std.specs.Prelude.{◌≡◌, ℕ, Bool, true, false, List, [], ◌∷◌, ◌++◌, take, Some, None, Option}
 use Rattle.lines.specs.declared.feed.Feed.{Feed}
-use Rattle.lines.specs.Held.{held}
 use Rattle.lines.specs.Lines.{Cut, TheLines}
 
 -- Bytes that P holds of were added.
 abbrev pub Added : List ℕ → List ℕ → (List ℕ → Type 0) → Type 0
 Added before after P = (said : List ℕ) × (after ≡ before ++ said) × P said
 
--- Has any byte come?
-abbrev pub any : List ℕ → Bool
-any [] = false
-any (b ∷ bs) = true
+-- What is kept of the line that has not ended, where these bytes have come; nothing before the first byte.
+abbrev pub kept_of : List ℕ → List ℕ → Option (List ℕ)
+kept_of [] rest = None
+kept_of (b ∷ bytes) rest = Some (take 65 rest)
 
 module _ {S : Type 0} (answers : S → List ℕ → S → List ℕ → Type 0) (ended : S → Bool) where
   -- One line is answered, unless the responder has ended.
@@ -33,8 +32,7 @@ module _ {S : Type 0} (answers : S → List ℕ → S → List ℕ → Type 0) (
     pub rest : List ℕ
     pub cut : Cut bytes lines rest
     pub dialogue : Dialogue lines s t said
-    pub kept : held feed.buffer ≡ take 65 rest
-    pub begun : feed.begun ≡ any bytes
+    pub kept : feed.line ≡ kept_of bytes rest
 
   -- Whatever bytes led here, they and the piece lead on, with what was said added.
   abbrev pub Leads : Feed → S → List ℕ → Feed → S → List ℕ → Type 0
