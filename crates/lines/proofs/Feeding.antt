@@ -1,18 +1,17 @@
 -- Bytes that come one after another, and the lines that they make.
-use Rattle.std.proofs.Common.{◌≡◌, ℕ, ◌<◌, ◌≤◌, Bool, List, [], ◌∷◌, ◌++◌, length, take, Some, None, sym, refl, ap, ◌∙◌, subst, ⊎_elim, append_assoc, append-nil, arith, length-append, length-take}
+use Rattle.std.proofs.Common.{◌≡◌, ℕ, ◌<◌, ◌≤◌, Bool, List, [], ◌∷◌, ◌++◌, length, take, Some, None, Option, sym, refl, ap, ◌∙◌, subst, ⊎_elim, append_assoc, append-nil, arith, length-append, length-take}
 use lib.Seq.{take-append-le}
 use Rattle.std.specs.List.{flat_map}
 use Rattle.std.specs.Option.{unwrap_or}
 use Rattle.std.proofs.lemmas.List.{take_all, flat_map_more}
 use Rattle.std.proofs.lemmas.Bool.{cases_lt}
-use Rattle.lines.specs.declared.feed.Feed.{Feed}
 use Rattle.lines.specs.Dialogues.{kept_of, Turn, Dialogue, Fed, Leads, Completes}
 use Rattle.lines.specs.Lines.{Unbroken, AllUnbroken, broken_off, Cut, LinesOf, TheLines, last_line}
 use Rattle.lines.proofs.OneCut.{one_lines}
 
 -- The bytes that are kept; none are before the first byte.
-abbrev pub held : Feed → List ℕ
-held feed = unwrap_or feed.line []
+abbrev pub held : Option (List ℕ) → List ℕ
+held feed = unwrap_or feed []
 
 kept_more : (bytes rest : List ℕ) (b : ℕ) → kept_of (bytes ++ (b ∷ [])) rest ≡ Some (take 65 rest)
 kept_more [] rest b = refl
@@ -62,7 +61,7 @@ none_left xs [] e = refl
 none_left xs (y ∷ ys) e = absurd (omega (arith, ap length e, length-append xs (y ∷ ys)))
 
 -- What is kept are the first 65 bytes of the line that has not ended.
-held_is : (feed : Feed) (bytes : List ℕ) (ended : List (List ℕ)) (rest : List ℕ) → Cut bytes ended rest → feed.line ≡ kept_of bytes rest → held feed ≡ take 65 rest
+held_is : (feed : Option (List ℕ)) (bytes : List ℕ) (ended : List (List ℕ)) (rest : List ℕ) → Cut bytes ended rest → feed ≡ kept_of bytes rest → held feed ≡ take 65 rest
 held_is feed [] ended rest C e = ap (λ x. unwrap_or x []) e ∙ sym (ap (take 65) (none_left (flat_map broken_off ended) rest C.whole) ∙ take_all 65 [] (omega arith))
 held_is feed (b ∷ bytes) ended rest C e = ap (λ x. unwrap_or x []) e
 
@@ -92,17 +91,17 @@ module _ {S : Type 0} (answers : S → List ℕ → S → List ℕ → Type 0) (
   turn_more (l ∷ lines) s m t line said more (k, first, next, begins, d, e) turn =
       (k, first, next ++ more, begins, turn_more lines k m t line next more d turn, ap (λ x. x ++ more) e ∙ append_assoc first next more)
 
-  pub leads_none : (feed : Feed) (t : S) → Leads answers ended feed t [] feed t []
+  pub leads_none : (feed : Option (List ℕ)) (t : S) → Leads answers ended feed t [] feed t []
   leads_none feed t s bytes earlier F =
       subst (λ x. Fed answers ended s x feed t (earlier ++ [])) (sym (append-nil bytes)) (subst (λ x. Fed answers ended s bytes feed t x) (sym (append-nil earlier)) F)
 
-  pub leads_on : (f g h : Feed) (t u v : S) (p q said more : List ℕ) → Leads answers ended f t p g u said → Leads answers ended g u q h v more → Leads answers ended f t (p ++ q) h v (said ++ more)
+  pub leads_on : (f g h : Option (List ℕ)) (t u v : S) (p q said more : List ℕ) → Leads answers ended f t p g u said → Leads answers ended g u q h v more → Leads answers ended f t (p ++ q) h v (said ++ more)
   leads_on f g h t u v p q said more A B s bytes earlier F =
       subst (λ x. Fed answers ended s x h v (earlier ++ (said ++ more))) (append_assoc bytes p q)
       (subst (λ x. Fed answers ended s ((bytes ++ p) ++ q) h v x) (append_assoc earlier said more)
       (B s (bytes ++ p) (earlier ++ said) (A s bytes earlier F)))
 
-  pub leads_byte : (f g : Feed) (t : S) (line : List ℕ) (b : ℕ) → (b ≡ 10 → ⊥) → line ≡ held f → g.line ≡ Some (take 65 (line ++ (b ∷ []))) → Leads answers ended f t (b ∷ []) g t []
+  pub leads_byte : (f g : Option (List ℕ)) (t : S) (line : List ℕ) (b : ℕ) → (b ≡ 10 → ⊥) → line ≡ held f → g ≡ Some (take 65 (line ++ (b ∷ []))) → Leads answers ended f t (b ∷ []) g t []
   leads_byte f g t line b n e pushed s bytes earlier F = record {
     lines = F.lines;
     rest = F.rest ++ (b ∷ []);
@@ -118,7 +117,7 @@ module _ {S : Type 0} (answers : S → List ℕ → S → List ℕ → Type 0) (
     turn_whole : (s t : S) (line kept said : List ℕ) → kept ≡ take 65 line → Turn answers ended s kept t said → Turn answers ended s line t said
     turn_whole s t line kept said e T = record { over = T.over; answered = λ h. short s t line said (subst (λ x. answers s x t said) e (T.answered h)) }
 
-    leads_10 : (f g : Feed) (t u : S) (line said : List ℕ) → line ≡ held f → Turn answers ended t line u said → g.line ≡ Some [] → Leads answers ended f t (10 ∷ []) g u said
+    leads_10 : (f g : Option (List ℕ)) (t u : S) (line said : List ℕ) → line ≡ held f → Turn answers ended t line u said → g ≡ Some [] → Leads answers ended f t (10 ∷ []) g u said
     leads_10 f g t u line said e T cleared s bytes earlier F = record {
       lines = F.lines ++ (F.rest ∷ []);
       rest = [];
@@ -127,10 +126,10 @@ module _ {S : Type 0} (answers : S → List ℕ → S → List ℕ → Type 0) (
       kept = cleared ∙ ap Some (sym (take_all 65 [] (omega arith))) ∙ sym (kept_more bytes [] 10);
     }
 
-    pub leads_line : (f g : Feed) (t u : S) (line said : List ℕ) (b : ℕ) → b ≡ 10 → line ≡ held f → Turn answers ended t line u said → g.line ≡ Some [] → Leads answers ended f t (b ∷ []) g u said
+    pub leads_line : (f g : Option (List ℕ)) (t u : S) (line said : List ℕ) (b : ℕ) → b ≡ 10 → line ≡ held f → Turn answers ended t line u said → g ≡ Some [] → Leads answers ended f t (b ∷ []) g u said
     leads_line f g t u line said b ten e T cleared = subst (λ x. Leads answers ended f t (x ∷ []) g u said) (sym ten) (leads_10 f g t u line said e T cleared)
 
-    pub completes_last : (f : Feed) (t u : S) (line said : List ℕ) → (f.line ≡ Some [] → ⊥) → line ≡ held f → Turn answers ended t line u said → Completes answers ended f t u said
+    pub completes_last : (f : Option (List ℕ)) (t u : S) (line said : List ℕ) → (f ≡ Some [] → ⊥) → line ≡ held f → Turn answers ended t line u said → Completes answers ended f t u said
     completes_last f t u line said n e T s bytes earlier F =
         let one : last_line bytes F.rest ≡ F.rest ∷ [] = one_last bytes F.lines F.rest F.cut (λ k. n (F.kept ∙ k)) in (
           F.lines ++ (F.rest ∷ []),
@@ -138,7 +137,7 @@ module _ {S : Type 0} (answers : S → List ℕ → S → List ℕ → Type 0) (
           turn_more F.lines s t u F.rest earlier said F.dialogue (turn_whole t u F.rest line said (e ∙ held_is f bytes F.lines F.rest F.cut F.kept) T),
         )
 
-  pub completes_none : (f : Feed) (t : S) → f.line ≡ Some [] → Completes answers ended f t t []
+  pub completes_none : (f : Option (List ℕ)) (t : S) → f ≡ Some [] → Completes answers ended f t t []
   completes_none f t empty s bytes earlier F =
       let none : last_line bytes F.rest ≡ [] = no_last bytes F.rest (sym F.kept ∙ empty) in (
         F.lines,
@@ -146,7 +145,7 @@ module _ {S : Type 0} (answers : S → List ℕ → S → List ℕ → Type 0) (
         subst (λ x. Dialogue answers ended F.lines s t x) (sym (append-nil earlier)) F.dialogue,
       )
 
-  pub fed_none : (f : Feed) (s : S) → f.line ≡ None → Fed answers ended s [] f s []
+  pub fed_none : (f : Option (List ℕ)) (s : S) → f ≡ None → Fed answers ended s [] f s []
   fed_none f s none = record {
     lines = [];
     rest = [];

@@ -6,6 +6,7 @@ ghost use Rattle.lines.specs.Lines.{TheLines};
 use crate::line_buffer::LineBuffer;
 use crate::responder::Responder;
 use std::alloc::AllocError;
+use std::marker::Model;
 
 // What is known of the input between two pieces: the line that has not ended, or nothing where no byte has come.
 #[derive(Drop)]
@@ -23,10 +24,19 @@ fn answer<R: Responder>(line: &[u8], out: &mut String, responder: &mut R) -> Res
     responder.respond(line, out)
 }
 
+// A feed is the bytes that it keeps.
+impl Model for Feed {
+    ghost use Rattle.std.specs.Prelude.{ℕ, List, Option};
+
+    ghost Value = { Option (List ℕ) };
+
+    ghost view = { λ f. f.line };
+}
+
 impl Feed {
     // No byte has come.
     pub fn new() -> Feed
-        ensures { result.line ≡ None }
+        ensures { result ≡ None }
     {
         Feed { line: None }
     }
@@ -41,12 +51,12 @@ impl Feed {
         ensures { OnOk result (Added (string_bytes out.old) (string_bytes out.new) (Leads R.Responder.answers R.Responder.ended self.old responder.old (byte ∷ []) self.new responder.new)) }
     {
         let line = self.line.get_or_insert_with(LineBuffer::new);
-        if byte == b'\n' {
-            answer(line.line(), out, responder)?;
-            line.clear();
-        } else {
+        if byte != b'\n' {
             line.push(byte);
+            return Ok(());
         }
+        answer(line.line(), out, responder)?;
+        line.clear();
         Ok(())
     }
 

@@ -2,8 +2,8 @@ use Rattle.std.proofs.Common.{◌≡◌, [], Some, sym, ap, append-nil, arith, r
 use Rattle.lines.proofs.Feeding.{held, leads_byte, leads_line}
 use Rattle.lines.proofs.feed.Feed.feed_byte.Goals as goal
 
-pub returns-in_ok-answer : goal.returns-in_ok-answer
-returns-in_ok-answer g c =
+pub returns : goal.returns
+returns g c =
     let now = c.in_ok-answer.ensures in
     let line : c.line.result.now ≡ held c.args.self.now = search rules in (
       now.0,
@@ -11,8 +11,8 @@ returns-in_ok-answer g c =
       leads_line g.R.Responder.answers g.R.Responder.ended g.R.Responder.short c.args.self.now _ c.args.responder.now _ _ now.0 c.args.byte (omega arith) line now.2 (ap Some c.clear.ensures),
     )
 
-pub returns-else-byte-eq10 : goal.returns-else-byte-eq10
-returns-else-byte-eq10 g c =
+pub returns-then-byte-ne10 : goal.returns-then-byte-ne10
+returns-then-byte-ne10 g c =
     let line : c.get_or_insert_with-line.result.now ≡ held c.args.self.now = search rules in (
       [],
       sym (append-nil _),

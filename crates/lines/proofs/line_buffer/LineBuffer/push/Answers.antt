@@ -4,9 +4,9 @@ use Rattle.lines.proofs.line_buffer.LineBuffer.push.Goals as goal
 
 pub returns-then-not-is_full : goal.returns-then-not-is_full
 returns-then-not-is_full c =
-    let pushed : c.push.new.self.items ≡ c.args.self.now ++ (c.args.byte ∷ []) = search rules in
     let room : length c.args.self.now ≤ 64 = search rules in
-    pushed ∙ sym (take_all 65 _ (simp length-append (omega arith)))
+    let whole = take_all 65 (c.args.self.now ++ (c.args.byte ∷ [])) (simp length-append (omega arith)) in
+    rw whole (search rules)
 
 pub returns-else-not-is_full : goal.returns-else-not-is_full
 returns-else-not-is_full c =
