@@ -11,9 +11,9 @@ use definitions::FaultCode;
 use std::alloc::AllocError;
 use std::fmt;
 
-// What a command answers.
+// What a command answers. Places are given as P: themselves, or how many they are.
 #[derive(Clone, Copy)]
-pub enum Answer<'a> {
+pub enum Answer<P> {
     // The command was carried out, and has nothing to say.
     Done,
     // How many nodes have a guarantee.
@@ -21,9 +21,9 @@ pub enum Answer<'a> {
     // A guarantee.
     Value(u64),
     // The places of a route.
-    Places(&'a [u16]),
+    Places(P),
     // The value and the places of a trace.
-    Traced(u64, &'a [u16]),
+    Traced(u64, P),
 }
 
 impl fmt::Display for Command {
@@ -59,7 +59,7 @@ impl fmt::Display for Places<'_> {
 }
 
 // What follows a command on its line.
-impl fmt::Display for Answer<'_> {
+impl fmt::Display for Answer<&[u16]> {
     ghost output = { λ answer. Some (answered answer) };
 
     fn fmt<W: fmt::Write>(&self, f: &mut fmt::Formatter<W>) -> fmt::Result {
@@ -77,7 +77,7 @@ impl fmt::Display for Answer<'_> {
 pub fn print_answer(
     out: &mut String,
     command: Command,
-    answer: Answer<'_>,
+    answer: Answer<&[u16]>,
 ) -> Result<(), AllocError>
     ensures { OnOk result (string_bytes out.new ≡ string_bytes out.old ++ answer_line command answer.entry) }
 {

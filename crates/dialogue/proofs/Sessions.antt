@@ -14,13 +14,13 @@ use Rattle.lines.specs.Dialogues.{Turn, Dialogue as Exchange}
 use Rattle.networks.specs.declared.network.Network.{Ghosts as NetworkGhosts}
 use Rattle.measures.specs.declared.Measure.{Ghosts as MeasureGhosts}
 use Rattle.planner.specs.Planners.{state, network_of}
-use Rattle.dialogue.specs.declared.command.Outcome.{Outcome}
 use Rattle.dialogue.specs.declared.dialogue.Dialogue.{Dialogue}
 use Rattle.dialogue.specs.declared.fault.Cause.{Cause}
 use Rattle.dialogue.specs.declared.session.Session.{Session}
 use Rattle.dialogue.specs.declared.session.Session.TheVariants.{Opening, ByDelay, ByWidth}
 use Rattle.dialogue.specs.Dialogues.{Tried, reply, next_number}
 use Rattle.dialogue.specs.Sessions.{is_over, Begun, Later, First, Answered, Sound, Answers}
+use Rattle.dialogue.specs.Outcomes.{Outcome}
 
 tried_right : (m : Scale) (s s' : State) (r : Result Command LineFault) (result : Result (Command × Outcome) Cause) (buffer filled : List ℕ) → Tried m s r result s' buffer filled → Right m s → Right m s'
 tried_right m s s' (Err f) result buffer filled (e, same) R = subst (λ x. Right m x) (sym same) R

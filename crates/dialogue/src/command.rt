@@ -1,32 +1,20 @@
 // Commands carried out on a planner.
 ghost use Rattle.std.specs.Prelude.{◌≡◌, ℕ};
-ghost use Rattle.dialogue.specs.declared.command.Outcome.TheVariants.{Done, Count, Value, Places, Traced};
-ghost use Rattle.dialogue.specs.Outcomes.{mapped, pair_traced};
+ghost use Rattle.dialogue.specs.Outcomes.{pair_traced};
 ghost use Rattle.dialogue.specs.Commands.{Carried};
 ghost use Rattle.planner.specs.Planners.{state, network_of};
 ghost use Rattle.histories.specs.State.{Right};
 
 use console::command::Command;
+use console::print::Answer;
 use definitions::Failure;
 use histories::fault::PlannerFault;
 use measures::Measure;
 use networks::network::Network;
 use planner::planner::Planner;
 
-// What a planner answers to a command; places are counted, and stand in a buffer.
-#[derive(Clone, Copy)]
-pub enum Outcome {
-    // The mark of a link was changed.
-    Done,
-    // How many nodes have a guarantee.
-    Count(usize),
-    // A guarantee.
-    Value(u64),
-    // How many places a route has.
-    Places(usize),
-    // The value of a trace, and how many places it has.
-    Traced(u64, usize),
-}
+// What a planner answers to a command: places are counted, and stand in the caller's buffer.
+pub type Outcome = Answer<usize>;
 
 // The outcome of a trace.
 fn traced(answer: (u64, usize)) -> Outcome

@@ -47,7 +47,7 @@ fn try_line<N: Network, M: Measure>(
 }
 
 // What is printed of an outcome, whose places stand in the buffer.
-fn answer_of<'a>(outcome: Outcome, buffer: &'a [u16]) -> Answer<'a>
+fn answer_of(outcome: Outcome, buffer: &[u16]) -> Answer<&[u16]>
     ensures { answered result ≡ shown outcome buffer.now }
 {
     match outcome {

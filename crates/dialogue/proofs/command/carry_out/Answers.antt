@@ -1,7 +1,7 @@
 use Rattle.std.proofs.Common.{◌≡◌, refl, rules}
 use Rattle.console.specs.declared.command.Command.TheVariants.{Plan, Guarantee, Route, Backup, Withdraw, Restore, TraceLink, TraceGroup}
 use Rattle.planner.specs.Planners.{state}
-use Rattle.dialogue.specs.declared.command.Outcome.TheVariants.{Done, Count, Value, Places}
+use Rattle.console.specs.declared.print.Answer.TheVariants.{Done, Count, Value, Places}
 use Rattle.dialogue.specs.Outcomes.{mapped, pair_traced}
 use Rattle.dialogue.proofs.Carrying.{plan_carried, withdraw_carried, restore_carried, guarantee_carried, route_carried, backup_carried, trace_link_carried, trace_group_carried}
 use Rattle.dialogue.proofs.command.carry_out.Goals as goal
