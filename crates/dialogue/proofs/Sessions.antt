@@ -53,15 +53,6 @@ module _ {N : Type 0} {gn : NetworkGhosts N} (meaning : N → Net) where
     first_width d e B = subst (λ z. First meaning (Ok z) x (ByWidth d) (opening_line z nodes places)) (sym e)
         (d, refl, B, ap (λ k. opening_line Width k places) n ∙ ap (opening_line Width (meaning x).nodes) p)
 
-  -- A session is sound after its first line.
-  first_sound : (x : N) (r : Result MeasureName LineFault) (t : Session N gn) (said : List ℕ) → First meaning r x t said → Sound meaning t
-  first_sound x (Ok Delay) t said (d, e, B, _) = subst (λ z. Sound meaning z) (sym e) (after_right delay (meaning x) [] (state meaning d.planner) B.after)
-  first_sound x (Ok Width) t said (d, e, B, _) = subst (λ z. Sound meaning z) (sym e) (after_right width (meaning x) [] (state meaning d.planner) B.after)
-  first_sound x (Err f) t said (e, _) = subst (λ z. Sound meaning z) (sym e) tt
-
-  pub opening_answers : (s : Session N gn) (line said : List ℕ) (heap : _) (x : N) (t : Session N gn) → s ≡ Opening heap x → First meaning (measure_named line) x t said → Answers meaning s line t said
-  opening_answers s line said heap x t e F = subst (λ z. Answers meaning z line t said) (sym e) (λ _. (F, first_sound x (measure_named line) t said F))
-
   -- Sound sessions answer each line as they should, whatever came before.
   sound_turn : (s m : Session N gn) (line said : List ℕ) → Turn (Answers meaning) is_over s line m said → Sound meaning s → Sound meaning m
   sound_turn s m line said T S = go (is_over s) refl

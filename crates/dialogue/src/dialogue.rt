@@ -70,10 +70,13 @@ fn print_reply(
 {
     match res {
         Ok((command, outcome)) => print_answer(out, command, answer_of(outcome, buffer)),
-        Err(cause) => {
-            let line = number;
-            print_fault(out, ConsoleFault { line, cause })
-        }
+        Err(cause) => print_fault(
+            out,
+            ConsoleFault {
+                line: number,
+                cause,
+            },
+        ),
     }
 }
 

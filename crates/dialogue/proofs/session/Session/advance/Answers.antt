@@ -1,12 +1,5 @@
-use Rattle.std.proofs.lemmas.Result.{IfOk-weaker}
-use Rattle.dialogue.proofs.Sessions.{opening_answers, delay_answers, width_answers}
+use Rattle.dialogue.proofs.Sessions.{delay_answers, width_answers}
 use Rattle.dialogue.proofs.session.Session.advance.Goals as goal
-
-pub returns-in-Opening : goal.returns-in-Opening
-returns-in-Opening g c =
-    IfOk-weaker c.open.result _ _
-    (λ t a. (a.0, a.1, opening_answers g.N.Network.meaning c.args.self c.args.line.now a.0 c.in-Opening.heap c.in-Opening.network t c.in-Opening.is a.2))
-    c.open.ensures
 
 pub returns-in_ok-answered-in-ByDelay : goal.returns-in_ok-answered-in-ByDelay
 returns-in_ok-answered-in-ByDelay g c =
