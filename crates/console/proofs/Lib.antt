@@ -1,3 +1,4 @@
+pub mod Numerals
 pub mod Reading
 pub mod Spelling
 pub mod WordLaws

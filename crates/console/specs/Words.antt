@@ -40,6 +40,12 @@ text (Letter b start) = b.now ∷ []
 text (Number w start) = w.now
 text (Other w start) = w.now
 
+-- The byte where a word starts.
+abbrev pub start_of : Token → ℕ
+start_of (Letter b start) = start
+start_of (Number w start) = start
+start_of (Other w start) = start
+
 -- What each kind of word says of its bytes and of its start.
 abbrev pub IsKind : Token → ℕ → Type 0
 IsKind (Letter b start) at = (start ≡ at) × (is_ascii_alphabetic b.now ≡ true)

@@ -34,14 +34,14 @@ pub enum LineFault {
     TooLarge(usize),
 }
 
-impl LineFault {
-    // Layer, number and place of the fault.
-    pub fn code(&self) -> FaultCode
-        ensures { result ≡ line_code self.now }
-    {
-        let (number, place) = match self {
-            LineFault::BadWord(at) => (19, *at),
-            LineFault::TooLarge(at) => (20, *at),
+// Layer, number and place of the fault.
+impl From<LineFault> for FaultCode {
+    ghost from_gives = { λ e r. r ≡ line_code e };
+
+    fn from(fault: LineFault) -> FaultCode {
+        let (number, place) = match fault {
+            LineFault::BadWord(at) => (19, at),
+            LineFault::TooLarge(at) => (20, at),
         };
         FaultCode {
             layer: 4,

@@ -3,7 +3,6 @@
 
 pub mod command;
 pub mod measure;
-pub mod numeral;
 pub mod parse;
 pub mod print;
 pub mod token;

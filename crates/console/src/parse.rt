@@ -1,42 +1,26 @@
 // A line as a command.
-ghost use Rattle.std.specs.Prelude.{◌≡◌, ℕ, ◌+◌, ◌<◌, ◌≤◌, true, ◌∷◌, length, take, if◌then◌else◌, Ok, Err, ◌≢◌, nat_le, slice_index};
-ghost use Rattle.std.specs.Str.{all_ascii_digits};
+ghost use Rattle.std.specs.Prelude.{◌≡◌, ◌+◌, ◌≤◌, true, [], ◌∷◌, length, take, Some, Ok, MatchResult};
 ghost use Rattle.console.specs.declared.command.Command.{Command};
-ghost use Rattle.console.specs.declared.command.LineFault.TheVariants.{TooLarge};
+ghost use Rattle.console.specs.declared.command.LineFault.TheVariants.{BadWord};
 ghost use Rattle.console.specs.Grammar.{letter_at, number_at, last_number, reading};
 ghost use Rattle.console.specs.Left.{words_in, left, First, Passed};
-ghost use Rattle.console.specs.Words.{words, number_of};
+ghost use Rattle.console.specs.Words.{words, is_digits, number_of, below};
 ghost use Rattle.console.specs.Rest.{room};
 ghost use Rattle.console.specs.Commands.{printed, SixteenBits, Spells};
 
 use crate::command::{Command, LineFault};
-use crate::numeral::value;
 use crate::token::Token;
 use crate::words::Words;
-
-// How many bytes stand before the first space, or all.
-fn word_len(rest: &[u8]) -> usize
-    ensures within { result ≤ length rest.now }
-    ensures before { (k : ℕ) → k < result → slice_index rest.now k ≢ 32 }
-    ensures found { result < length rest.now → slice_index rest.now result ≡ 32 }
-{
-    for (i, b) in rest.iter().enumerate() {
-        if *b == b' ' {
-            return i;
-        }
-    }
-    rest.len()
-}
+use std::str;
 
 // The first word, and what follows its space.
 fn split_word(rest: &[u8]) -> (&[u8], Option<&[u8]>)
     ensures words { words rest.now ≡ result.0.now ∷ words_in result.1 }
     ensures room { length result.0.now + room result.1 ≤ length rest.now }
 {
-    let (word, tail) = rest.split_at(word_len(rest));
-    match tail {
-        [] => (word, None),
-        [_, after @ ..] => (word, Some(after)),
+    match rest.iter().position(|b| *b == b' ') {
+        Some(space) => (&rest[..space], Some(&rest[space + 1..])),
+        None => (rest, None),
     }
 }
 
@@ -67,17 +51,22 @@ impl<'a> Words<'a> {
         Some(Token::new(word, start))
     }
 
+    // Passes the next word, which is not to be missing.
+    fn word(&mut self) -> Result<Token<'a>, LineFault>
+        ensures first { MatchResult result (λ word. First self.old (Some word)) (λ fault. (left self.old ≡ []) × (fault ≡ BadWord self.old.start)) }
+        ensures passed { Passed self.old self.new }
+    {
+        self.take().ok_or(LineFault::BadWord(self.start))
+    }
+
     // Passes the next word, which is to be a letter.
     fn letter(&mut self) -> Result<char, LineFault>
         ensures value { result ≡ letter_at self.old.start (left self.old) }
         ensures passed { Passed self.old self.new }
     {
-        let missing = self.start;
-        match self.take() {
-            Some(Token::Letter(b, _)) => Ok(char::from(*b)),
-            Some(Token::Number(_, start)) => Err(LineFault::BadWord(start)),
-            Some(Token::Other(_, start)) => Err(LineFault::BadWord(start)),
-            None => Err(LineFault::BadWord(missing)),
+        match self.word()? {
+            Token::Letter(b, _) => Ok(char::from(*b)),
+            other => Err(LineFault::BadWord(other.start())),
         }
     }
 
@@ -86,12 +75,11 @@ impl<'a> Words<'a> {
         ensures value { result ≡ number_at self.old.start (left self.old) }
         ensures passed { Passed self.old self.new }
     {
-        let missing = self.start;
-        match self.take() {
-            Some(Token::Number(digits, start)) => small_number(digits, start),
-            Some(Token::Letter(_, start)) => Err(LineFault::BadWord(start)),
-            Some(Token::Other(_, start)) => Err(LineFault::BadWord(start)),
-            None => Err(LineFault::BadWord(missing)),
+        match self.word()? {
+            Token::Number(digits, start) => {
+                small_number(digits).ok_or(LineFault::TooLarge(start))
+            }
+            other => Err(LineFault::BadWord(other.start())),
         }
     }
 
@@ -100,23 +88,19 @@ impl<'a> Words<'a> {
         ensures { result ≡ last_number self.old.start (left self.old) }
     {
         let n = self.number()?;
-        let end = self.start;
         match self.take() {
-            Some(_) => Err(LineFault::BadWord(end)),
+            Some(surplus) => Err(LineFault::BadWord(surplus.start())),
             None => Ok(n),
         }
     }
 }
 
 // The number that the digits write, if it is at most 65,535.
-fn small_number(digits: &[u8], start: usize) -> Result<u16, LineFault>
-    requires { all_ascii_digits digits.now ≡ true }
-    ensures { result ≡ (if nat_le (number_of 0 digits.now) 65535 then Ok (number_of 0 digits.now) else Err (TooLarge start)) }
+fn small_number(digits: &[u8]) -> Option<u16>
+    requires { is_digits digits.now ≡ true }
+    ensures { result ≡ below 65536 (number_of 0 digits.now) }
 {
-    match value(digits) {
-        Some(n) if n <= 65_535 => Ok(n as u16),
-        _ => Err(LineFault::TooLarge(start)),
-    }
+    str::from_utf8(digits).unwrap().parse().ok()
 }
 
 // The letter decides how many numbers follow.

@@ -11,9 +11,9 @@ use definitions::FaultCode;
 use std::alloc::AllocError;
 use std::fmt;
 
-// What a command answers.
+// What a command answers. Places are given as P: themselves, or how many they are.
 #[derive(Clone, Copy)]
-pub enum Answer<'a> {
+pub enum Answer<P> {
     // The command was carried out, and has nothing to say.
     Done,
     // How many nodes have a guarantee.
@@ -21,9 +21,9 @@ pub enum Answer<'a> {
     // A guarantee.
     Value(u64),
     // The places of a route.
-    Places(&'a [u16]),
+    Places(P),
     // The value and the places of a trace.
-    Traced(u64, &'a [u16]),
+    Traced(u64, P),
 }
 
 impl fmt::Display for Command {
@@ -43,34 +43,33 @@ impl fmt::Display for Command {
     }
 }
 
-// Adds a space and the number, for each place.
-fn push_places(out: &mut String, places: &[u16]) -> Result<(), AllocError>
-    ensures { OnOk result (string_bytes out.new ≡ string_bytes out.old ++ flat_map field places.now) }
-{
-    for place in places {
-        write!(out, " {place}")?;
+// Places, each after a space.
+#[derive(Clone, Copy)]
+struct Places<'a>(&'a [u16]);
+
+impl fmt::Display for Places<'_> {
+    ghost output = { λ places. Some (flat_map field places.0.now) };
+
+    fn fmt<W: fmt::Write>(&self, f: &mut fmt::Formatter<W>) -> fmt::Result {
+        for place in self.0 {
+            write!(f, " {place}")?;
+        }
+        Ok(())
     }
-    Ok(())
 }
 
-// Adds the value, then the places.
-fn push_traced(out: &mut String, value: u64, places: &[u16]) -> Result<(), AllocError>
-    ensures { OnOk result (string_bytes out.new ≡ string_bytes out.old ++ (field value ++ flat_map field places.now)) }
-{
-    write!(out, " {value}")?;
-    push_places(out, places)
-}
+// What follows a command on its line.
+impl fmt::Display for Answer<&[u16]> {
+    ghost output = { λ answer. Some (answered answer) };
 
-// Adds what follows a command on its line.
-fn push_answer(out: &mut String, answer: Answer<'_>) -> Result<(), AllocError>
-    ensures { OnOk result (string_bytes out.new ≡ string_bytes out.old ++ answered answer.entry) }
-{
-    match answer {
-        Answer::Done => Ok(()),
-        Answer::Count(n) => write!(out, " {n}"),
-        Answer::Value(v) => write!(out, " {v}"),
-        Answer::Places(places) => push_places(out, places),
-        Answer::Traced(v, places) => push_traced(out, v, places),
+    fn fmt<W: fmt::Write>(&self, f: &mut fmt::Formatter<W>) -> fmt::Result {
+        match self {
+            Answer::Done => Ok(()),
+            Answer::Count(n) => write!(f, " {n}"),
+            Answer::Value(v) => write!(f, " {v}"),
+            Answer::Places(places) => write!(f, "{}", Places(places)),
+            Answer::Traced(v, places) => write!(f, " {v}{}", Places(places)),
+        }
     }
 }
 
@@ -78,13 +77,11 @@ fn push_answer(out: &mut String, answer: Answer<'_>) -> Result<(), AllocError>
 pub fn print_answer(
     out: &mut String,
     command: Command,
-    answer: Answer<'_>,
+    answer: Answer<&[u16]>,
 ) -> Result<(), AllocError>
     ensures { OnOk result (string_bytes out.new ≡ string_bytes out.old ++ answer_line command answer.entry) }
 {
-    write!(out, "{command}")?;
-    push_answer(out, answer)?;
-    writeln!(out)
+    writeln!(out, "{command}{answer}")
 }
 
 // Adds the line of a refusal.
@@ -108,8 +105,5 @@ pub fn print_opening(
 ) -> Result<(), AllocError>
     ensures { OnOk result (string_bytes out.new ≡ string_bytes out.old ++ opening_line name nodes places) }
 {
-    match name {
-        MeasureName::Delay => writeln!(out, "D {nodes} {places}"),
-        MeasureName::Width => writeln!(out, "C {nodes} {places}"),
-    }
+    writeln!(out, "{name} {nodes} {places}")
 }

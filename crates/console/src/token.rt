@@ -1,6 +1,6 @@
 // One word of a line.
 ghost use Rattle.std.specs.Prelude.{◌≡◌};
-ghost use Rattle.console.specs.Words.{IsKind, text, is_digits};
+ghost use Rattle.console.specs.Words.{IsKind, text, start_of, is_digits};
 
 // A word, as a part of the line, with the byte where it starts.
 #[derive(Clone, Copy)]
@@ -17,12 +17,7 @@ pub enum Token<'a> {
 fn is_number(word: &[u8]) -> bool
     ensures { result ≡ is_digits word.now }
 {
-    for b in word {
-        if !b.is_ascii_digit() {
-            return false;
-        }
-    }
-    !word.is_empty()
+    !word.is_empty() && word.iter().all(u8::is_ascii_digit)
 }
 
 impl<'a> Token<'a> {
@@ -35,6 +30,15 @@ impl<'a> Token<'a> {
             [b] if b.is_ascii_alphabetic() => Token::Letter(b, start),
             _ if is_number(word) => Token::Number(word, start),
             _ => Token::Other(word, start),
+        }
+    }
+
+    // The byte where the word starts.
+    pub(crate) fn start(&self) -> usize
+        ensures { result ≡ start_of self.now }
+    {
+        match self {
+            Token::Letter(_, start) | Token::Number(_, start) | Token::Other(_, start) => *start,
         }
     }
 }

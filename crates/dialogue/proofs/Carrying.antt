@@ -11,10 +11,9 @@ use Rattle.histories.specs.Answers.{WithdrawAnswer, RestoreAnswer, PlanAnswer, G
 use Rattle.histories.specs.Histories.{Follows}
 use Rattle.histories.specs.Promise.{GuaranteeHistory, RouteHistory, TraceHistory}
 use Rattle.histories.specs.State.{State, Right}
-use Rattle.dialogue.specs.declared.command.Outcome.{Outcome}
-use Rattle.dialogue.specs.declared.command.Outcome.TheVariants.{Done, Count, Value, Places}
+use Rattle.console.specs.declared.print.Answer.TheVariants.{Done, Count, Value, Places}
 use Rattle.dialogue.specs.Commands.{Carried}
-use Rattle.dialogue.specs.Outcomes.{mapped, pair_traced}
+use Rattle.dialogue.specs.Outcomes.{Outcome, mapped, pair_traced}
 use Rattle.dialogue.proofs.Room.{outcome_fits, plan_fits, withdraw_fits, restore_fits, guarantee_fits, route_fits, backup_fits, trace_fits}
 
 module _ (m : Scale) (s : State) (c : Command) (r : Result Outcome PlannerFault) (buffer buffer' : List ℕ) where

@@ -16,9 +16,8 @@ use Rattle.histories.proofs.Accepting.{backup_short, traced_short}
 use Rattle.histories.proofs.Plain.{ok_err, err_one}
 use Rattle.histories.proofs.Promises.{guarantee_held}
 use Rattle.histories.proofs.Reading.{service_limits}
-use Rattle.dialogue.specs.declared.command.Outcome.{Outcome}
 use Rattle.dialogue.specs.Commands.{NotFull}
-use Rattle.dialogue.specs.Outcomes.{mapped}
+use Rattle.dialogue.specs.Outcomes.{Outcome, mapped}
 
 other : {A : Type 0} (q : Result A PlannerFault) (f : PlannerFault) → ((planner_code f).number ≡ 16 → ⊥) → q ≡ Err f → NotFull q
 other q f n e g h c = n (ap (λ x. (planner_code x).number) (err_one f g (sym e ∙ h)) ∙ c)

@@ -14,13 +14,13 @@ use Rattle.lines.specs.Dialogues.{Turn, Dialogue as Exchange}
 use Rattle.networks.specs.declared.network.Network.{Ghosts as NetworkGhosts}
 use Rattle.measures.specs.declared.Measure.{Ghosts as MeasureGhosts}
 use Rattle.planner.specs.Planners.{state, network_of}
-use Rattle.dialogue.specs.declared.command.Outcome.{Outcome}
 use Rattle.dialogue.specs.declared.dialogue.Dialogue.{Dialogue}
 use Rattle.dialogue.specs.declared.fault.Cause.{Cause}
 use Rattle.dialogue.specs.declared.session.Session.{Session}
 use Rattle.dialogue.specs.declared.session.Session.TheVariants.{Opening, ByDelay, ByWidth}
 use Rattle.dialogue.specs.Dialogues.{Tried, reply, next_number}
 use Rattle.dialogue.specs.Sessions.{is_over, Begun, Later, First, Answered, Sound, Answers}
+use Rattle.dialogue.specs.Outcomes.{Outcome}
 
 tried_right : (m : Scale) (s s' : State) (r : Result Command LineFault) (result : Result (Command × Outcome) Cause) (buffer filled : List ℕ) → Tried m s r result s' buffer filled → Right m s → Right m s'
 tried_right m s s' (Err f) result buffer filled (e, same) R = subst (λ x. Right m x) (sym same) R
@@ -52,15 +52,6 @@ module _ {N : Type 0} {gn : NetworkGhosts N} (meaning : N → Net) where
     pub first_width : (d : _) → name ≡ Width → Begun meaning width x d → First {gn = gn} meaning (Ok name) x (ByWidth d) (opening_line name nodes places)
     first_width d e B = subst (λ z. First meaning (Ok z) x (ByWidth d) (opening_line z nodes places)) (sym e)
         (d, refl, B, ap (λ k. opening_line Width k places) n ∙ ap (opening_line Width (meaning x).nodes) p)
-
-  -- A session is sound after its first line.
-  first_sound : (x : N) (r : Result MeasureName LineFault) (t : Session N gn) (said : List ℕ) → First meaning r x t said → Sound meaning t
-  first_sound x (Ok Delay) t said (d, e, B, _) = subst (λ z. Sound meaning z) (sym e) (after_right delay (meaning x) [] (state meaning d.planner) B.after)
-  first_sound x (Ok Width) t said (d, e, B, _) = subst (λ z. Sound meaning z) (sym e) (after_right width (meaning x) [] (state meaning d.planner) B.after)
-  first_sound x (Err f) t said (e, _) = subst (λ z. Sound meaning z) (sym e) tt
-
-  pub opening_answers : (s : Session N gn) (line said : List ℕ) (heap : _) (x : N) (t : Session N gn) → s ≡ Opening heap x → First meaning (measure_named line) x t said → Answers meaning s line t said
-  opening_answers s line said heap x t e F = subst (λ z. Answers meaning z line t said) (sym e) (λ _. (F, first_sound x (measure_named line) t said F))
 
   -- Sound sessions answer each line as they should, whatever came before.
   sound_turn : (s m : Session N gn) (line said : List ℕ) → Turn (Answers meaning) is_over s line m said → Sound meaning s → Sound meaning m

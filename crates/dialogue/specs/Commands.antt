@@ -12,9 +12,8 @@ use Rattle.histories.specs.Answers.{WithdrawAnswer, RestoreAnswer, PlanAnswer, G
 use Rattle.histories.specs.Histories.{Follows}
 use Rattle.histories.specs.Promise.{GuaranteeHistory, RouteHistory, TraceHistory}
 use Rattle.histories.specs.State.{State, Right}
-use Rattle.dialogue.specs.declared.command.Outcome.{Outcome}
-use Rattle.dialogue.specs.declared.command.Outcome.TheVariants.{Done, Count, Value, Places}
-use Rattle.dialogue.specs.Outcomes.{mapped, pair_traced}
+use Rattle.console.specs.declared.print.Answer.TheVariants.{Done, Count, Value, Places}
+use Rattle.dialogue.specs.Outcomes.{Outcome, mapped, pair_traced}
 
 -- The call of a planner answered q, of which P holds, and the outcome says just that.
 abbrev pub By : {A : Type 0} → (A → Outcome) → Result Outcome PlannerFault → (Result A PlannerFault → Type 0) → Type 0

@@ -8,12 +8,11 @@ use Rattle.console.specs.Grammar.{reading}
 use Rattle.definitions.specs.Measures.{Scale}
 use Rattle.histories.specs.declared.fault.PlannerFault.{PlannerFault}
 use Rattle.histories.specs.State.{State}
-use Rattle.dialogue.specs.declared.command.Outcome.{Outcome}
 use Rattle.dialogue.specs.declared.fault.Cause.{Cause}
 use Rattle.dialogue.specs.declared.fault.Cause.TheVariants.{Line, Planner}
 use Rattle.dialogue.specs.Commands.{Carried}
 use Rattle.dialogue.specs.Faults.{cause_code}
-use Rattle.dialogue.specs.Outcomes.{shown}
+use Rattle.dialogue.specs.Outcomes.{Outcome, shown}
 
 abbrev pub with_command : Command → Result Outcome PlannerFault → Result (Command × Outcome) Cause
 with_command c (Ok o) = Ok (c, o)

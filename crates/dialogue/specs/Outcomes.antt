@@ -3,8 +3,12 @@ use Rattle.std.specs.Prelude.{ℕ, List, [], ◌++◌, take, Ok, Err, Result}
 use Rattle.std.specs.List.{flat_map}
 use Rattle.console.specs.Commands.{field}
 use Rattle.histories.specs.declared.fault.PlannerFault.{PlannerFault}
-use Rattle.dialogue.specs.declared.command.Outcome.{Outcome}
-use Rattle.dialogue.specs.declared.command.Outcome.TheVariants.{Done, Count, Value, Places, Traced}
+use Rattle.console.specs.declared.print.Answer.{Answer}
+use Rattle.console.specs.declared.print.Answer.TheVariants.{Done, Count, Value, Places, Traced}
+
+-- An answer whose places are counted.
+abbrev pub Outcome : Type 0
+Outcome = Answer ℕ
 
 -- The answer of a planner's call as an outcome; a refusal stays as it is.
 abbrev pub mapped : {A : Type 0} → (A → Outcome) → Result A PlannerFault → Result Outcome PlannerFault

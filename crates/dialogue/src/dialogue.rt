@@ -10,15 +10,14 @@ ghost use Rattle.dialogue.specs.Outcomes.{shown};
 ghost use Rattle.dialogue.specs.Sessions.{Begun, Later};
 
 use crate::command::{Outcome, carry_out};
-use crate::fault::{Cause, ConsoleFault};
+use crate::fault::{Cause, ConsoleFault, print_fault};
 use console::command::Command;
 use console::parse::parse;
-use console::print::{Answer, print_answer, print_refusal};
-use lines::responder::NoMemory;
+use console::print::{Answer, print_answer};
 use measures::Measure;
 use networks::network::Network;
 use planner::planner::Planner;
-use std::alloc::{AllocError, Global};
+use std::alloc::{AllocError, AllocFailed, Global};
 
 // A planner, and how many lines have come.
 pub struct Dialogue<N: Network, M: Measure> {
@@ -48,7 +47,7 @@ fn try_line<N: Network, M: Measure>(
 }
 
 // What is printed of an outcome, whose places stand in the buffer.
-fn answer_of<'a>(outcome: Outcome, buffer: &'a [u16]) -> Answer<'a>
+fn answer_of(outcome: Outcome, buffer: &[u16]) -> Answer<&[u16]>
     ensures { answered result ≡ shown outcome buffer.now }
 {
     match outcome {
@@ -71,33 +70,32 @@ fn print_reply(
 {
     match res {
         Ok((command, outcome)) => print_answer(out, command, answer_of(outcome, buffer)),
-        Err(cause) => {
-            let fault = ConsoleFault {
+        Err(cause) => print_fault(
+            out,
+            ConsoleFault {
                 line: number,
                 cause,
-            };
-            print_refusal(out, fault.line, fault.code())
-        }
+            },
+        ),
     }
 }
 
 impl<N: Network, M: Measure> Dialogue<N, M> {
     // A dialogue with a new planner, after one line.
-    pub fn open(heap: Global, network: N) -> Result<Dialogue<N, M>, N>
+    pub fn open(heap: Global, network: N) -> Result<Dialogue<N, M>, AllocFailed<N>>
         ensures { IfOk result (λ d. Begun N.Network.meaning M.Measure.scale network d) }
     {
-        let planner = Planner::open(heap, network)?;
+        let planner = Planner::open(heap, network).map_err(|value| AllocFailed { value })?;
         Ok(Dialogue { planner, lines: 1 })
     }
 
     // Answers one line more.
-    pub fn answer(&mut self, line: &[u8], out: &mut String) -> Result<(), NoMemory>
+    pub fn answer(&mut self, line: &[u8], out: &mut String) -> Result<(), AllocError>
         ensures { OnOk result (Added (string_bytes out.old) (string_bytes out.new) (λ said. Right M.Measure.scale (state N.Network.meaning self.old.planner) → Later N.Network.meaning M.Measure.scale self.old line.now self.new said)) }
     {
         self.lines = self.lines.saturating_add(1);
         let mut buffer = [0; 512];
         let result = try_line(&mut self.planner, line, &mut buffer);
-        print_reply(out, self.lines, result, &buffer)?;
-        Ok(())
+        print_reply(out, self.lines, result, &buffer)
     }
 }

@@ -1,12 +1,15 @@
 // Faults of all layers, as the console refuses with them.
-ghost use Rattle.std.specs.Prelude.{◌≡◌};
+ghost use Rattle.std.specs.Prelude.{◌≡◌, ◌++◌, string_bytes, OnOk};
+ghost use Rattle.console.specs.Answers.{refusal_line};
 ghost use Rattle.dialogue.specs.declared.fault.Cause.TheVariants.{Line, Map, Planner};
 ghost use Rattle.dialogue.specs.Faults.{cause_code};
 
 use console::command::LineFault;
+use console::print::print_refusal;
 use definitions::FaultCode;
 use histories::fault::PlannerFault;
 use maps::fault::MapFault;
+use std::alloc::AllocError;
 
 // The fault of the line itself, of the map, or of the planner's call, whole.
 #[derive(Clone, Copy, PartialEq, Eq, Debug)]
@@ -47,15 +50,22 @@ impl From<PlannerFault> for Cause {
     }
 }
 
-impl ConsoleFault {
-    // Layer, number and place: those of the fault that it carries.
-    pub fn code(&self) -> FaultCode
-        ensures { result ≡ cause_code self.now.cause }
-    {
-        match &self.cause {
-            Cause::Line(carried) => carried.code(),
+// Layer, number and place: those of the fault that it carries.
+impl From<ConsoleFault> for FaultCode {
+    ghost from_gives = { λ e r. r ≡ cause_code e.cause };
+
+    fn from(fault: ConsoleFault) -> FaultCode {
+        match fault.cause {
+            Cause::Line(carried) => FaultCode::from(carried),
             Cause::Map(carried) => carried.code(),
             Cause::Planner(carried) => carried.code(),
         }
     }
+}
+
+// Adds the line of the refusal.
+pub(crate) fn print_fault(out: &mut String, fault: ConsoleFault) -> Result<(), AllocError>
+    ensures { OnOk result (string_bytes out.new ≡ string_bytes out.old ++ refusal_line fault.line (cause_code fault.cause)) }
+{
+    print_refusal(out, fault.line, FaultCode::from(fault))
 }

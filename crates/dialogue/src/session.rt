@@ -2,21 +2,23 @@
 ghost use Rattle.std.specs.Prelude.{◌≡◌, ℕ, List, IfOk, Ok, string_bytes, OnOk};
 ghost use Rattle.console.specs.FirstLine.{measure_named};
 ghost use Rattle.lines.specs.Dialogues.{Added, Dialogue as Exchange};
+ghost use Rattle.histories.specs.State.{Right};
 ghost use Rattle.lines.specs.Lines.{TheLines};
+ghost use Rattle.planner.specs.Planners.{state};
 ghost use Rattle.dialogue.specs.declared.session.Session.{Session};
 ghost use Rattle.dialogue.specs.declared.session.Session.TheVariants.{Opening};
-ghost use Rattle.dialogue.specs.Sessions.{is_over, First, Answered, Answers};
+ghost use Rattle.dialogue.specs.Sessions.{is_over, First, Later, Answered, Answers};
 ghost use Rattle.dialogue.specs.Shorts.{answers_short};
 
 use crate::dialogue::Dialogue;
-use crate::fault::{Cause, ConsoleFault};
-use console::measure::{MeasureName, measure};
-use console::print::{print_opening, print_refusal};
+use crate::fault::{Cause, ConsoleFault, print_fault};
+use console::measure::MeasureName;
+use console::print::print_opening;
 use lines::feed::respond_all;
-use lines::responder::{NoMemory, Responder};
-use measures::{Delay, Width};
+use lines::responder::Responder;
+use measures::{Delay, Measure, Width};
 use networks::network::Network;
-use std::alloc::Global;
+use std::alloc::{AllocError, Global};
 use std::mem;
 
 // The first line is still to come, a dialogue goes on under the measure that it chose, or the session has ended.
@@ -34,19 +36,13 @@ fn begin<N: Network + Drop>(
     network: N,
     name: MeasureName,
     out: &mut String,
-) -> Result<Session<N>, NoMemory>
+) -> Result<Session<N>, AllocError>
     ensures { IfOk result (λ t. Added (string_bytes out.old) (string_bytes out.new) (First N.Network.meaning (Ok name) network t)) }
 {
     print_opening(out, name, network.node_count(), network.place_count())?;
     match name {
-        MeasureName::Delay => match Dialogue::open(heap, network) {
-            Ok(dialogue) => Ok(Session::ByDelay(dialogue)),
-            Err(_network) => Err(NoMemory),
-        },
-        MeasureName::Width => match Dialogue::open(heap, network) {
-            Ok(dialogue) => Ok(Session::ByWidth(dialogue)),
-            Err(_network) => Err(NoMemory),
-        },
+        MeasureName::Delay => Ok(Session::ByDelay(Dialogue::open(heap, network)?)),
+        MeasureName::Width => Ok(Session::ByWidth(Dialogue::open(heap, network)?)),
     }
 }
 
@@ -56,20 +52,29 @@ fn open<N: Network + Drop>(
     network: N,
     line: &[u8],
     out: &mut String,
-) -> Result<Session<N>, NoMemory>
+) -> Result<Session<N>, AllocError>
     ensures { IfOk result (λ t. Added (string_bytes out.old) (string_bytes out.new) (First N.Network.meaning (measure_named line.now) network t)) }
 {
-    match measure(line) {
+    match MeasureName::try_from(line) {
         Ok(name) => begin(heap, network, name, out),
         Err(fault) => {
-            let fault = ConsoleFault {
-                line: 1,
-                cause: Cause::Line(fault),
-            };
-            print_refusal(out, fault.line, fault.code())?;
+            let cause = Cause::from(fault);
+            print_fault(out, ConsoleFault { line: 1, cause })?;
             Ok(Session::Ended)
         }
     }
+}
+
+// The dialogue after one line more.
+fn answered<N: Network + Drop, M: Measure>(
+    mut dialogue: Dialogue<N, M>,
+    line: &[u8],
+    out: &mut String,
+) -> Result<Dialogue<N, M>, AllocError>
+    ensures { IfOk result (λ d. Added (string_bytes out.old) (string_bytes out.new) (λ said. Right M.Measure.scale (state N.Network.meaning dialogue.planner) → Later N.Network.meaning M.Measure.scale dialogue line.now d said)) }
+{
+    dialogue.answer(line, out)?;
+    Ok(dialogue)
 }
 
 impl<N: Network + Drop> Session<N> {
@@ -81,19 +86,13 @@ impl<N: Network + Drop> Session<N> {
     }
 
     // What one line makes of the session.
-    fn advance(self, line: &[u8], out: &mut String) -> Result<Session<N>, NoMemory>
+    fn advance(self, line: &[u8], out: &mut String) -> Result<Session<N>, AllocError>
         ensures { IfOk result (λ t. Added (string_bytes out.old) (string_bytes out.new) (Answers N.Network.meaning self line.now t)) }
     {
         match self {
             Session::Opening(heap, network) => open(heap, network, line, out),
-            Session::ByDelay(mut dialogue) => {
-                dialogue.answer(line, out)?;
-                Ok(Session::ByDelay(dialogue))
-            }
-            Session::ByWidth(mut dialogue) => {
-                dialogue.answer(line, out)?;
-                Ok(Session::ByWidth(dialogue))
-            }
+            Session::ByDelay(dialogue) => Ok(Session::ByDelay(answered(dialogue, line, out)?)),
+            Session::ByWidth(dialogue) => Ok(Session::ByWidth(answered(dialogue, line, out)?)),
             Session::Ended => Ok(Session::Ended),
         }
     }
@@ -108,13 +107,10 @@ impl<N: Network + Drop> Responder for Session<N> {
     ghost short = { answers_short N.Network.meaning };
 
     fn has_ended(&self) -> bool {
-        match self {
-            Session::Ended => true,
-            _ => false,
-        }
+        matches!(self, Session::Ended)
     }
 
-    fn respond(&mut self, line: &[u8], out: &mut String) -> Result<(), NoMemory> {
+    fn respond(&mut self, line: &[u8], out: &mut String) -> Result<(), AllocError> {
         let session = mem::replace(self, Session::Ended);
         *self = session.advance(line, out)?;
         Ok(())
@@ -127,7 +123,7 @@ pub fn converse<N: Network + Drop>(
     network: N,
     input: &[u8],
     out: &mut String,
-) -> Result<(), NoMemory>
+) -> Result<(), AllocError>
     ensures { OnOk result (Added (string_bytes out.old) (string_bytes out.new) (λ said. (lines : List (List ℕ)) × (t : Session N N.Network) × TheLines input.now lines × Exchange (Answered N.Network.meaning) is_over lines (Opening heap network) t said)) }
 {
     let mut session = Session::new(heap, network);

@@ -1,18 +1,21 @@
 -- Bytes that come one after another, and the lines that they make.
-use Rattle.std.proofs.Common.{◌≡◌, ℕ, ◌<◌, ◌≤◌, Bool, true, false, List, [], ◌∷◌, ◌++◌, length, take, sym, refl, ap, ◌∙◌, subst, ⊎_elim, true≢false, append_assoc, append-nil, arith, length-append, length-take}
+use Rattle.std.proofs.Common.{◌≡◌, ℕ, ◌<◌, ◌≤◌, Bool, List, [], ◌∷◌, ◌++◌, length, take, Some, None, Option, sym, refl, ap, ◌∙◌, subst, ⊎_elim, append_assoc, append-nil, arith, length-append, length-take}
 use lib.Seq.{take-append-le}
 use Rattle.std.specs.List.{flat_map}
+use Rattle.std.specs.Option.{unwrap_or}
 use Rattle.std.proofs.lemmas.List.{take_all, flat_map_more}
 use Rattle.std.proofs.lemmas.Bool.{cases_lt}
-use Rattle.lines.specs.declared.feed.Feed.{Feed}
-use Rattle.lines.specs.Dialogues.{any, Turn, Dialogue, Fed, Leads, Completes}
-use Rattle.lines.specs.Held.{held}
+use Rattle.lines.specs.Dialogues.{kept_of, Turn, Dialogue, Fed, Leads, Completes}
 use Rattle.lines.specs.Lines.{Unbroken, AllUnbroken, broken_off, Cut, LinesOf, TheLines, last_line}
 use Rattle.lines.proofs.OneCut.{one_lines}
 
-any_more : (bytes : List ℕ) (b : ℕ) → any (bytes ++ (b ∷ [])) ≡ true
-any_more [] b = refl
-any_more (c ∷ bytes) b = refl
+-- The bytes that are kept; none are before the first byte.
+abbrev pub held : Option (List ℕ) → List ℕ
+held feed = unwrap_or feed []
+
+kept_more : (bytes rest : List ℕ) (b : ℕ) → kept_of (bytes ++ (b ∷ [])) rest ≡ Some (take 65 rest)
+kept_more [] rest b = refl
+kept_more (c ∷ bytes) rest b = refl
 
 unbroken_more : (rest : List ℕ) (b : ℕ) → (b ≡ 10 → ⊥) → Unbroken rest → Unbroken (rest ++ (b ∷ []))
 unbroken_more [] b n u = (n, tt)
@@ -41,8 +44,8 @@ cut_line bytes ended rest C = record {
 }
 
 -- Of a rest that grows, the first 65 bytes follow from the first 65 before.
-kept_more : (rest : List ℕ) (b : ℕ) → take 65 (take 65 rest ++ (b ∷ [])) ≡ take 65 (rest ++ (b ∷ []))
-kept_more rest b = ⊎_elim short long (cases_lt (length rest) 65)
+front_more : (rest : List ℕ) (b : ℕ) → take 65 (take 65 rest ++ (b ∷ [])) ≡ take 65 (rest ++ (b ∷ []))
+front_more rest b = ⊎_elim short long (cases_lt (length rest) 65)
   where
     short : length rest < 65 → take 65 (take 65 rest ++ (b ∷ [])) ≡ take 65 (rest ++ (b ∷ []))
     short h = ap (λ x. take 65 (x ++ (b ∷ []))) (take_all 65 rest (omega arith))
@@ -53,22 +56,28 @@ kept_more rest b = ⊎_elim short long (cases_lt (length rest) 65)
         let no_more : length (take 65 rest) ≤ 65 = simp length-take (omega arith) in
         take-append-le 65 (take 65 rest) (b ∷ []) full ∙ take_all 65 (take 65 rest) no_more ∙ sym (take-append-le 65 rest (b ∷ []) h)
 
--- There is no last line where bytes have come and none is kept.
-no_last : (bytes rest : List ℕ) → any bytes ≡ true → take 65 rest ≡ [] → last_line bytes rest ≡ []
-no_last [] rest e h = absurd (true≢false (sym e))
-no_last (b ∷ bytes) [] e h = refl
-no_last (b ∷ bytes) (c ∷ rest) e h =
-    let some : 0 < length (take 65 (c ∷ rest)) = simp length-take (omega arith) in
-    absurd (omega (arith, some, ap length h))
-
 none_left : (xs ys : List ℕ) → [] ≡ xs ++ ys → ys ≡ []
 none_left xs [] e = refl
 none_left xs (y ∷ ys) e = absurd (omega (arith, ap length e, length-append xs (y ∷ ys)))
 
+-- What is kept are the first 65 bytes of the line that has not ended.
+held_is : (feed : Option (List ℕ)) (bytes : List ℕ) (ended : List (List ℕ)) (rest : List ℕ) → Cut bytes ended rest → feed ≡ kept_of bytes rest → held feed ≡ take 65 rest
+held_is feed [] ended rest C e = ap (λ x. unwrap_or x []) e ∙ sym (ap (take 65) (none_left (flat_map broken_off ended) rest C.whole) ∙ take_all 65 [] (omega arith))
+held_is feed (b ∷ bytes) ended rest C e = ap (λ x. unwrap_or x []) e
+
+-- There is no last line where bytes have come and none is kept.
+no_last : (bytes rest : List ℕ) → kept_of bytes rest ≡ Some [] → last_line bytes rest ≡ []
+no_last [] rest e = absurd (cc)
+no_last (b ∷ bytes) [] e = refl
+no_last (b ∷ bytes) (c ∷ rest) e =
+    let some : 0 < length (take 65 (c ∷ rest)) = simp length-take (omega arith) in
+    let none : take 65 (c ∷ rest) ≡ [] = cc in
+    absurd (omega (arith, some, ap length none))
+
 -- What is kept is the last line, unless bytes have come and none is kept.
-one_last : (bytes : List ℕ) (ended : List (List ℕ)) (rest : List ℕ) → Cut bytes ended rest → (any bytes ≡ true → take 65 rest ≡ [] → ⊥) → last_line bytes rest ≡ rest ∷ []
+one_last : (bytes : List ℕ) (ended : List (List ℕ)) (rest : List ℕ) → Cut bytes ended rest → (kept_of bytes rest ≡ Some [] → ⊥) → last_line bytes rest ≡ rest ∷ []
 one_last [] ended rest C n = ap (λ x. x ∷ []) (sym (none_left (flat_map broken_off ended) rest C.whole))
-one_last (b ∷ bytes) ended [] C n = absurd (n refl (take_all 65 [] (omega arith)))
+one_last (b ∷ bytes) ended [] C n = absurd (n (ap Some (take_all 65 [] (omega arith))))
 one_last (b ∷ bytes) ended (c ∷ rest) C n = refl
 
 the_lines : (bytes : List ℕ) (lines : List (List ℕ)) → LinesOf bytes lines → TheLines bytes lines
@@ -82,24 +91,25 @@ module _ {S : Type 0} (answers : S → List ℕ → S → List ℕ → Type 0) (
   turn_more (l ∷ lines) s m t line said more (k, first, next, begins, d, e) turn =
       (k, first, next ++ more, begins, turn_more lines k m t line next more d turn, ap (λ x. x ++ more) e ∙ append_assoc first next more)
 
-  pub leads_none : (feed : Feed) (t : S) → Leads answers ended feed t [] feed t []
+  pub leads_none : (feed : Option (List ℕ)) (t : S) → Leads answers ended feed t [] feed t []
   leads_none feed t s bytes earlier F =
       subst (λ x. Fed answers ended s x feed t (earlier ++ [])) (sym (append-nil bytes)) (subst (λ x. Fed answers ended s bytes feed t x) (sym (append-nil earlier)) F)
 
-  pub leads_on : (f g h : Feed) (t u v : S) (p q said more : List ℕ) → Leads answers ended f t p g u said → Leads answers ended g u q h v more → Leads answers ended f t (p ++ q) h v (said ++ more)
+  pub leads_on : (f g h : Option (List ℕ)) (t u v : S) (p q said more : List ℕ) → Leads answers ended f t p g u said → Leads answers ended g u q h v more → Leads answers ended f t (p ++ q) h v (said ++ more)
   leads_on f g h t u v p q said more A B s bytes earlier F =
       subst (λ x. Fed answers ended s x h v (earlier ++ (said ++ more))) (append_assoc bytes p q)
       (subst (λ x. Fed answers ended s ((bytes ++ p) ++ q) h v x) (append_assoc earlier said more)
       (B s (bytes ++ p) (earlier ++ said) (A s bytes earlier F)))
 
-  pub leads_byte : (f g : Feed) (t : S) (b : ℕ) → (b ≡ 10 → ⊥) → held g.buffer ≡ take 65 (held f.buffer ++ (b ∷ [])) → g.begun ≡ true → Leads answers ended f t (b ∷ []) g t []
-  leads_byte f g t b n pushed begun s bytes earlier F = record {
+  pub leads_byte : (f g : Option (List ℕ)) (t : S) (line : List ℕ) (b : ℕ) → (b ≡ 10 → ⊥) → line ≡ held f → g ≡ Some (take 65 (line ++ (b ∷ []))) → Leads answers ended f t (b ∷ []) g t []
+  leads_byte f g t line b n e pushed s bytes earlier F = record {
     lines = F.lines;
     rest = F.rest ++ (b ∷ []);
     cut = cut_byte bytes F.lines F.rest b n F.cut;
     dialogue = subst (λ x. Dialogue answers ended F.lines s t x) (sym (append-nil earlier)) F.dialogue;
-    kept = pushed ∙ ap (λ x. take 65 (x ++ (b ∷ []))) F.kept ∙ kept_more F.rest b;
-    begun = begun ∙ sym (any_more bytes b);
+    kept =
+        pushed ∙ ap (λ x. Some (take 65 (x ++ (b ∷ [])))) (e ∙ held_is f bytes F.lines F.rest F.cut F.kept)
+        ∙ ap Some (front_more F.rest b) ∙ sym (kept_more bytes (F.rest ++ (b ∷ [])) b);
   }
 
   module _ (short : (s t : S) (line said : List ℕ) → answers s (take 65 line) t said → answers s line t said) where
@@ -107,38 +117,39 @@ module _ {S : Type 0} (answers : S → List ℕ → S → List ℕ → Type 0) (
     turn_whole : (s t : S) (line kept said : List ℕ) → kept ≡ take 65 line → Turn answers ended s kept t said → Turn answers ended s line t said
     turn_whole s t line kept said e T = record { over = T.over; answered = λ h. short s t line said (subst (λ x. answers s x t said) e (T.answered h)) }
 
-    pub leads_line : (f g : Feed) (t u : S) (said : List ℕ) → Turn answers ended t (held f.buffer) u said → held g.buffer ≡ [] → g.begun ≡ true → Leads answers ended f t (10 ∷ []) g u said
-    leads_line f g t u said T cleared begun s bytes earlier F = record {
+    leads_10 : (f g : Option (List ℕ)) (t u : S) (line said : List ℕ) → line ≡ held f → Turn answers ended t line u said → g ≡ Some [] → Leads answers ended f t (10 ∷ []) g u said
+    leads_10 f g t u line said e T cleared s bytes earlier F = record {
       lines = F.lines ++ (F.rest ∷ []);
       rest = [];
       cut = cut_line bytes F.lines F.rest F.cut;
-      dialogue = turn_more F.lines s t u F.rest earlier said F.dialogue (turn_whole t u F.rest (held f.buffer) said F.kept T);
-      kept = cleared ∙ sym (take_all 65 [] (omega arith));
-      begun = begun ∙ sym (any_more bytes 10);
+      dialogue = turn_more F.lines s t u F.rest earlier said F.dialogue (turn_whole t u F.rest line said (e ∙ held_is f bytes F.lines F.rest F.cut F.kept) T);
+      kept = cleared ∙ ap Some (sym (take_all 65 [] (omega arith))) ∙ sym (kept_more bytes [] 10);
     }
 
-    pub completes_last : (f : Feed) (t u : S) (said : List ℕ) → (f.begun ≡ true → held f.buffer ≡ [] → ⊥) → Turn answers ended t (held f.buffer) u said → Completes answers ended f t u said
-    completes_last f t u said n T s bytes earlier F =
-        let one : last_line bytes F.rest ≡ F.rest ∷ [] = one_last bytes F.lines F.rest F.cut (λ b k. n (F.begun ∙ b) (F.kept ∙ k)) in (
+    pub leads_line : (f g : Option (List ℕ)) (t u : S) (line said : List ℕ) (b : ℕ) → b ≡ 10 → line ≡ held f → Turn answers ended t line u said → g ≡ Some [] → Leads answers ended f t (b ∷ []) g u said
+    leads_line f g t u line said b ten e T cleared = subst (λ x. Leads answers ended f t (x ∷ []) g u said) (sym ten) (leads_10 f g t u line said e T cleared)
+
+    pub completes_last : (f : Option (List ℕ)) (t u : S) (line said : List ℕ) → (f ≡ Some [] → ⊥) → line ≡ held f → Turn answers ended t line u said → Completes answers ended f t u said
+    completes_last f t u line said n e T s bytes earlier F =
+        let one : last_line bytes F.rest ≡ F.rest ∷ [] = one_last bytes F.lines F.rest F.cut (λ k. n (F.kept ∙ k)) in (
           F.lines ++ (F.rest ∷ []),
           the_lines bytes _ (record { ended = F.lines; rest = F.rest; cut = F.cut; all = ap (λ x. F.lines ++ x) (sym one) }),
-          turn_more F.lines s t u F.rest earlier said F.dialogue (turn_whole t u F.rest (held f.buffer) said F.kept T),
+          turn_more F.lines s t u F.rest earlier said F.dialogue (turn_whole t u F.rest line said (e ∙ held_is f bytes F.lines F.rest F.cut F.kept) T),
         )
 
-  pub completes_none : (f : Feed) (t : S) → f.begun ≡ true → held f.buffer ≡ [] → Completes answers ended f t t []
-  completes_none f t begun empty s bytes earlier F =
-      let none : last_line bytes F.rest ≡ [] = no_last bytes F.rest (sym F.begun ∙ begun) (sym F.kept ∙ empty) in (
+  pub completes_none : (f : Option (List ℕ)) (t : S) → f ≡ Some [] → Completes answers ended f t t []
+  completes_none f t empty s bytes earlier F =
+      let none : last_line bytes F.rest ≡ [] = no_last bytes F.rest (sym F.kept ∙ empty) in (
         F.lines,
         the_lines bytes _ (record { ended = F.lines; rest = F.rest; cut = F.cut; all = sym (append-nil F.lines) ∙ ap (λ x. F.lines ++ x) (sym none) }),
         subst (λ x. Dialogue answers ended F.lines s t x) (sym (append-nil earlier)) F.dialogue,
       )
 
-  pub fed_none : (f : Feed) (s : S) → held f.buffer ≡ [] → f.begun ≡ false → Fed answers ended s [] f s []
-  fed_none f s empty begun = record {
+  pub fed_none : (f : Option (List ℕ)) (s : S) → f ≡ None → Fed answers ended s [] f s []
+  fed_none f s none = record {
     lines = [];
     rest = [];
     cut = record { whole = refl; unbroken = tt; unended = tt };
     dialogue = (refl, refl);
-    kept = empty ∙ sym (take_all 65 [] (omega arith));
-    begun = begun;
+    kept = none;
   }

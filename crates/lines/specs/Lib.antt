@@ -1,3 +1,2 @@
 pub mod Dialogues
-pub mod Held
 pub mod Lines

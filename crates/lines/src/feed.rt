@@ -1,69 +1,62 @@
 // Input in pieces of any size.
-ghost use Rattle.std.specs.Prelude.{◌≡◌, ℕ, false, List, [], ◌∷◌, string_bytes, OnOk};
-ghost use Rattle.lines.specs.Held.{held};
+ghost use Rattle.std.specs.Prelude.{◌≡◌, ℕ, List, [], ◌∷◌, None, string_bytes, OnOk};
 ghost use Rattle.lines.specs.Dialogues.{Added, Turn, Dialogue, Leads, Completes};
 ghost use Rattle.lines.specs.Lines.{TheLines};
 
 use crate::line_buffer::LineBuffer;
-use crate::responder::{NoMemory, Responder};
+use crate::responder::Responder;
+use std::alloc::AllocError;
+use std::marker::Model;
 
-// What is known of the input between two pieces: the line that has not ended, and whether any byte has come.
+// What is known of the input between two pieces: the line that has not ended, or nothing where no byte has come.
 #[derive(Drop)]
 pub struct Feed {
-    buffer: LineBuffer,
-    begun: bool,
+    line: Option<LineBuffer>,
+}
+
+// Has a line answered, unless the responder has ended.
+fn answer<R: Responder>(line: &[u8], out: &mut String, responder: &mut R) -> Result<(), AllocError>
+    ensures { OnOk result (Added (string_bytes out.old) (string_bytes out.new) (Turn R.Responder.answers R.Responder.ended responder.old line.now responder.new)) }
+{
+    if responder.has_ended() {
+        return Ok(());
+    }
+    responder.respond(line, out)
+}
+
+// A feed is the bytes that it keeps.
+impl Model for Feed {
+    ghost use Rattle.std.specs.Prelude.{ℕ, List, Option};
+
+    ghost Value = { Option (List ℕ) };
+
+    ghost view = { λ f. f.line };
 }
 
 impl Feed {
     // No byte has come.
     pub fn new() -> Feed
-        ensures buffer { held result.buffer ≡ [] }
-        ensures begun { result.begun ≡ false }
+        ensures { result ≡ None }
     {
-        Feed {
-            buffer: LineBuffer::new(),
-            begun: false,
-        }
+        Feed { line: None }
     }
 
-    // Has the kept line answered, unless the responder has ended.
-    fn answer<R: Responder>(&self, out: &mut String, responder: &mut R) -> Result<(), NoMemory>
-        ensures { OnOk result (Added (string_bytes out.old) (string_bytes out.new) (Turn R.Responder.answers R.Responder.ended responder.old (held self.now.buffer) responder.new)) }
-    {
-        if responder.has_ended() {
-            return Ok(());
-        }
-        responder.respond(self.buffer.line(), out)
-    }
-
-    // Takes the byte that ends a line.
-    fn end_line<R: Responder>(
-        &mut self,
-        out: &mut String,
-        responder: &mut R,
-    ) -> Result<(), NoMemory>
-        ensures { OnOk result (Added (string_bytes out.old) (string_bytes out.new) (Leads R.Responder.answers R.Responder.ended self.old responder.old (10 ∷ []) self.new responder.new)) }
-    {
-        self.begun = true;
-        self.answer(out, responder)?;
-        self.buffer.clear();
-        Ok(())
-    }
-
-    // Takes one byte.
+    // Takes one byte; byte 10 ends a line.
     fn feed_byte<R: Responder>(
         &mut self,
         byte: u8,
         out: &mut String,
         responder: &mut R,
-    ) -> Result<(), NoMemory>
+    ) -> Result<(), AllocError>
         ensures { OnOk result (Added (string_bytes out.old) (string_bytes out.new) (Leads R.Responder.answers R.Responder.ended self.old responder.old (byte ∷ []) self.new responder.new)) }
     {
-        if byte == b'\n' {
-            return self.end_line(out, responder);
+        let line = self.line.get_or_insert_with(LineBuffer::new);
+        if byte != b'\n' {
+            line.push(byte);
+            return Ok(());
         }
-        self.begun = true;
-        self.buffer.push(byte);
+        answer(line.line(), out, responder)?;
+        line.clear();
         Ok(())
     }
 
@@ -73,7 +66,7 @@ impl Feed {
         piece: &[u8],
         out: &mut String,
         responder: &mut R,
-    ) -> Result<(), NoMemory>
+    ) -> Result<(), AllocError>
         ensures { OnOk result (Added (string_bytes out.old) (string_bytes out.new) (Leads R.Responder.answers R.Responder.ended self.old responder.old piece.now self.new responder.new)) }
     {
         for byte in piece {
@@ -83,13 +76,18 @@ impl Feed {
     }
 
     // Ends the input: a last line may lack its byte 10, and an input with no line has a first line that is missing.
-    pub fn finish<R: Responder>(&self, out: &mut String, responder: &mut R) -> Result<(), NoMemory>
+    pub fn finish<R: Responder>(
+        &self,
+        out: &mut String,
+        responder: &mut R,
+    ) -> Result<(), AllocError>
         ensures { OnOk result (Added (string_bytes out.old) (string_bytes out.new) (Completes R.Responder.answers R.Responder.ended self.now responder.old responder.new)) }
     {
-        if self.begun && self.buffer.line().is_empty() {
-            return Ok(());
+        match &self.line {
+            None => answer(&[], out, responder),
+            Some(line) if line.line().is_empty() => Ok(()),
+            Some(line) => answer(line.line(), out, responder),
         }
-        self.answer(out, responder)
     }
 }
 
@@ -98,7 +96,7 @@ pub fn respond_all<R: Responder>(
     input: &[u8],
     out: &mut String,
     responder: &mut R,
-) -> Result<(), NoMemory>
+) -> Result<(), AllocError>
     ensures { OnOk result (Added (string_bytes out.old) (string_bytes out.new) (λ said. (lines : List (List ℕ)) × TheLines input.now lines × Dialogue R.Responder.answers R.Responder.ended lines responder.old responder.new said)) }
 {
     let mut feed = Feed::new();

@@ -1,5 +1,8 @@
 // The line that is being read, as far as it matters.
-ghost use Rattle.std.specs.Prelude.{◌≡◌, ◌≤◌, [], ◌∷◌, ◌++◌, take};
+ghost use Rattle.std.specs.Prelude.{◌≡◌, [], ◌∷◌, ◌++◌, take};
+
+use arrayvec::ArrayVec;
+use std::marker::Model;
 
 // How many bytes of a line are kept. Lines of more than 64 bytes are all refused alike, so one byte more than that is enough.
 pub const KEPT: usize = 65;
@@ -7,43 +10,48 @@ pub const KEPT: usize = 65;
 // The first bytes of a line; a line may have any length, and takes no more memory than this.
 #[derive(Drop)]
 pub struct LineBuffer {
-    bytes: [u8; KEPT],
-    len: usize,
-    ghost within: { len ≤ 65 },
+    bytes: ArrayVec<u8, KEPT>,
+}
+
+// A buffer is the bytes that it keeps.
+impl Model for LineBuffer {
+    ghost use Rattle.std.specs.Prelude.{ℕ, List};
+
+    ghost Value = { List ℕ };
+
+    ghost view = { λ b. b.bytes.items };
 }
 
 impl LineBuffer {
     // No byte yet.
     pub fn new() -> LineBuffer
-        ensures { take result.len result.bytes ≡ [] }
+        ensures { result ≡ [] }
     {
         LineBuffer {
-            bytes: [0; KEPT],
-            len: 0,
+            bytes: ArrayVec::new(),
         }
     }
 
     // One byte of the line more.
     pub fn push(&mut self, byte: u8)
-        ensures { take self.new.len self.new.bytes ≡ take 65 (take self.old.len self.old.bytes ++ (byte ∷ [])) }
+        ensures { self.new ≡ take 65 (self.old ++ (byte ∷ [])) }
     {
-        if self.len < KEPT {
-            self.bytes[self.len] = byte;
-            self.len += 1;
+        if !self.bytes.is_full() {
+            self.bytes.push(byte);
         }
     }
 
     // The bytes that were kept.
     pub fn line(&self) -> &[u8]
-        ensures { result.now ≡ take self.now.len self.now.bytes }
+        ensures { result.now ≡ self.now }
     {
-        &self.bytes[0..self.len]
+        self.bytes.as_slice()
     }
 
     // Begins a new line.
     pub fn clear(&mut self)
-        ensures { take self.new.len self.new.bytes ≡ [] }
+        ensures { self.new ≡ [] }
     {
-        self.len = 0;
+        self.bytes.clear();
     }
 }

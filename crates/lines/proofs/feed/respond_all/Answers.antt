@@ -8,7 +8,7 @@ returns g c =
     let s = c.args.responder.now in
     let new = c.new-feed.ensures in
     let fed = c.in_ok-feed.ensures in
-    let F = fed.2 s [] [] (fed_none g.R.Responder.answers g.R.Responder.ended c.new-feed.result s new.buffer new.begun) in
+    let F = fed.2 s [] [] (fed_none g.R.Responder.answers g.R.Responder.ended c.new-feed.result s new) in
     IfOk-weaker c.finish.result _ _
     (λ _ end. (
       fed.0 ++ end.0,

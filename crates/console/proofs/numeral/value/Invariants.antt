@@ -1,7 +1,0 @@
-use Rattle.std.proofs.Common.{◌≡◌, ◌^◌, ◌<◌, true, drop}
-use Rattle.std.specs.Str.{all_ascii_digits}
-use Rattle.console.specs.Words.{number_of}
-use Rattle.console.proofs.numeral.value.Given as goal
-
-abbrev pub invariant-loop-d : goal.invariant-loop-d
-invariant-loop-d l = (number_of 0 l.digits ≡ number_of l.n (drop l.d-index l.digits)) × (all_ascii_digits (drop l.d-index l.digits) ≡ true) × (l.n < 2 ^ 64)
