@@ -1,5 +1,7 @@
 // The planner: a network, which of its links are withdrawn, and the plan that stands.
-ghost use Rattle.std.specs.Prelude.{◌≡◌, vec_len};
+ghost use Rattle.std.specs.Prelude.{◌≡◌, vec_len, vec_items};
+ghost use Rattle.definitions.specs.Networks.{without};
+ghost use Rattle.histories.specs.State.{marked, PlanRight};
 
 use measures::Measure;
 use networks::network::Network;
@@ -9,7 +11,8 @@ use std::marker::PhantomData;
 mod calls;
 mod reads;
 
-// A mark for each place there can be, and a record for each node there can be, so that no call but `open` allocates.
+// A mark for each place there can be, and a record for each node there can be, so that no call but `open` allocates. The
+// records of a plan that stands are right in the network without the withdrawn links.
 pub struct Planner<N: Network, M: Measure> {
     network: N,
     withdrawn: Vec<bool>,
@@ -18,4 +21,5 @@ pub struct Planner<N: Network, M: Measure> {
     measure: PhantomData<M>,
     ghost marks: { vec_len withdrawn ≡ 1024 },
     ghost nodes: { vec_len records ≡ 256 },
+    ghost right: { ∥ PlanRight M.Measure.scale (without (marked (vec_items withdrawn)) (N.Network.meaning network)) destination (vec_items records) ∥₁ },
 }

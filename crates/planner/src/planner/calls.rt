@@ -1,7 +1,7 @@
 // The calls that change a planner.
 ghost use Rattle.std.specs.Prelude.{◌≡◌, ◌<◌, is_ok};
 ghost use Rattle.histories.specs.declared.call.Call.TheVariants.{Withdraw, Restore, Plan};
-ghost use Rattle.histories.specs.State.{marked, remarked, Right};
+ghost use Rattle.histories.specs.State.{marked, remarked};
 ghost use Rattle.histories.specs.Answers.{WithdrawAnswer, RestoreAnswer, PlanAnswer, Replanned};
 ghost use Rattle.histories.specs.Histories.{Follows};
 ghost use Rattle.planner.specs.Planners.{state, OpenAnswer, Unchanged};
@@ -64,7 +64,6 @@ impl<N: Network, M: Measure> Planner<N, M> {
         ensures answer { WithdrawAnswer (state N.Network.meaning self.old) place result (state N.Network.meaning self.new) }
         ensures keeps { self.new.network ≡ self.old.network }
         ensures unchanged { Unchanged result self.old self.new }
-        ensures right { Right M.Measure.scale (state N.Network.meaning self.old) → Right M.Measure.scale (state N.Network.meaning self.new) }
         ensures follows { Follows M.Measure.scale (state N.Network.meaning self.old) (Withdraw place) (is_ok result) (state N.Network.meaning self.new) }
     {
         if self.network.place(place).is_none() {
@@ -82,7 +81,6 @@ impl<N: Network, M: Measure> Planner<N, M> {
         ensures answer { RestoreAnswer (state N.Network.meaning self.old) place result (state N.Network.meaning self.new) }
         ensures keeps { self.new.network ≡ self.old.network }
         ensures unchanged { Unchanged result self.old self.new }
-        ensures right { Right M.Measure.scale (state N.Network.meaning self.old) → Right M.Measure.scale (state N.Network.meaning self.new) }
         ensures follows { Follows M.Measure.scale (state N.Network.meaning self.old) (Restore place) (is_ok result) (state N.Network.meaning self.new) }
     {
         if self.network.place(place).is_none() {
@@ -100,7 +98,6 @@ impl<N: Network, M: Measure> Planner<N, M> {
         ensures answer { PlanAnswer M.Measure.scale (state N.Network.meaning self.old) destination result (state N.Network.meaning self.new) }
         ensures keeps { self.new.network ≡ self.old.network }
         ensures unchanged { Unchanged result self.old self.new }
-        ensures right { Right M.Measure.scale (state N.Network.meaning self.old) → Right M.Measure.scale (state N.Network.meaning self.new) }
         ensures follows { Follows M.Measure.scale (state N.Network.meaning self.old) (Plan destination) (is_ok result) (state N.Network.meaning self.new) }
     {
         if destination >= self.network.node_count() {
@@ -111,7 +108,8 @@ impl<N: Network, M: Measure> Planner<N, M> {
 
     // Searches for the plan to a destination, keeps its records, and counts the nodes that have a guarantee.
     fn replan(&mut self, destination: usize) -> usize
-        ensures after { destination < (N.Network.meaning self.old.network).nodes → Replanned M.Measure.scale (state N.Network.meaning self.old) (state N.Network.meaning self.new) destination result }
+        requires { destination < (N.Network.meaning self.old.network).nodes }
+        ensures after { Replanned M.Measure.scale (state N.Network.meaning self.old) (state N.Network.meaning self.new) destination result }
         ensures keeps { self.new.network ≡ self.old.network }
     {
         let service = Withdrawn {

@@ -1,7 +1,7 @@
 // The calls that read the plan.
 ghost use Rattle.std.specs.Prelude.{◌≡◌, ◌≤◌, length, is_ok, IfOk};
 ghost use Rattle.histories.specs.declared.call.Call.TheVariants.{Guarantee, Next, Route, Backup, Trace};
-ghost use Rattle.histories.specs.State.{in_service, Right};
+ghost use Rattle.histories.specs.State.{in_service};
 ghost use Rattle.histories.specs.Answers.{GuaranteeAnswer, NextAnswer, RouteAnswer, BackupAnswer, TraceAnswer};
 ghost use Rattle.histories.specs.Histories.{Follows};
 ghost use Rattle.histories.specs.Parts.{read_answer, FailureAnswer, DetourAnswer};
@@ -21,7 +21,7 @@ use routes::walk;
 impl<N: Network, M: Measure> Planner<N, M> {
     // The guarantee of a node: the worst value of its held route, whatever one failure takes away.
     pub fn guarantee(&self, node: usize) -> Result<u64, PlannerFault>
-        ensures answer { Right M.Measure.scale (state N.Network.meaning self.now) → GuaranteeAnswer M.Measure.scale (state N.Network.meaning self.now) node result }
+        ensures answer { GuaranteeAnswer M.Measure.scale (state N.Network.meaning self.now) node result }
         ensures follows { Follows M.Measure.scale (state N.Network.meaning self.now) (Guarantee node) (is_ok result) (state N.Network.meaning self.now) }
         ensures history { GuaranteeHistory M.Measure.scale (state N.Network.meaning self.now) node result }
     {
@@ -31,7 +31,7 @@ impl<N: Network, M: Measure> Planner<N, M> {
 
     // The place of the next link of a node.
     pub fn next(&self, node: usize) -> Result<usize, PlannerFault>
-        ensures answer { Right M.Measure.scale (state N.Network.meaning self.now) → NextAnswer M.Measure.scale (state N.Network.meaning self.now) node result }
+        ensures answer { NextAnswer M.Measure.scale (state N.Network.meaning self.now) node result }
         ensures follows { Follows M.Measure.scale (state N.Network.meaning self.now) (Next node) (is_ok result) (state N.Network.meaning self.now) }
     {
         let (destination, _) = self.readable(node)?;
@@ -43,7 +43,7 @@ impl<N: Network, M: Measure> Planner<N, M> {
 
     // Writes the places of a node's held route and answers how many.
     pub fn route(&self, node: usize, places: &mut [u16]) -> Result<usize, PlannerFault>
-        ensures answer { Right M.Measure.scale (state N.Network.meaning self.now) → RouteAnswer M.Measure.scale (state N.Network.meaning self.now) node places.old result places.new }
+        ensures answer { RouteAnswer M.Measure.scale (state N.Network.meaning self.now) node places.old result places.new }
         ensures follows { Follows M.Measure.scale (state N.Network.meaning self.now) (Route node (length places.old)) (is_ok result) (state N.Network.meaning self.now) }
         ensures history { RouteHistory M.Measure.scale (state N.Network.meaning self.now) node result places.old places.new }
     {
@@ -60,7 +60,7 @@ impl<N: Network, M: Measure> Planner<N, M> {
 
     // Writes the places of the backup of a node's next link and answers how many.
     pub fn backup(&self, node: usize, places: &mut [u16]) -> Result<usize, PlannerFault>
-        ensures answer { Right M.Measure.scale (state N.Network.meaning self.now) → BackupAnswer M.Measure.scale (state N.Network.meaning self.now) node places.old result places.new }
+        ensures answer { BackupAnswer M.Measure.scale (state N.Network.meaning self.now) node places.old result places.new }
         ensures follows { Follows M.Measure.scale (state N.Network.meaning self.now) (Backup node (length places.old)) (is_ok result) (state N.Network.meaning self.now) }
     {
         let (destination, _) = self.readable(node)?;
@@ -77,7 +77,7 @@ impl<N: Network, M: Measure> Planner<N, M> {
         failure: Failure,
         places: &mut [u16],
     ) -> Result<(u64, usize), PlannerFault>
-        ensures answer { Right M.Measure.scale (state N.Network.meaning self.now) → TraceAnswer M.Measure.scale (state N.Network.meaning self.now) node failure places.old result places.new }
+        ensures answer { TraceAnswer M.Measure.scale (state N.Network.meaning self.now) node failure places.old result places.new }
         ensures follows { Follows M.Measure.scale (state N.Network.meaning self.now) (Trace node failure (length places.old)) (is_ok result) (state N.Network.meaning self.now) }
         ensures history { TraceHistory M.Measure.scale (state N.Network.meaning self.now) node failure result places.old places.new }
     {
