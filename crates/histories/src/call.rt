@@ -20,3 +20,10 @@ pub struct Event {
     pub call: Call,
     pub accepted: bool,
 }
+
+// What each call that reads the plan finds first: the destination of the plan, and the guarantee of the node.
+#[derive(Clone, Copy, PartialEq, Eq, Debug)]
+pub struct Reading {
+    pub destination: usize,
+    pub guarantee: u64,
+}
