@@ -55,7 +55,7 @@ impl ConsoleFault {
         match &self.cause {
             Cause::Line(carried) => carried.code(),
             Cause::Map(carried) => carried.code(),
-            Cause::Planner(carried) => carried.code(),
+            Cause::Planner(carried) => FaultCode::from(*carried),
         }
     }
 }

@@ -2,7 +2,7 @@
 use definitions::Failure;
 
 // A call of the planner with its arguments; of a buffer the length.
-#[derive(Clone, Copy)]
+#[derive(Clone, Copy, PartialEq, Eq, Debug)]
 pub enum Call {
     Withdraw(usize),
     Restore(usize),
@@ -15,7 +15,7 @@ pub enum Call {
 }
 
 // A call, and whether the planner accepted it.
-#[derive(Clone, Copy)]
+#[derive(Clone, Copy, PartialEq, Eq, Debug)]
 pub struct Event {
     pub call: Call,
     pub accepted: bool,

@@ -1,10 +1,23 @@
 // Answers of the planner in sentences.
+use definitions::FaultCode;
 use histories::fault::PlannerFault;
-use std::io;
+use std::{fmt, io};
+
+// Places in their order, each after a space.
+struct Places<'a>(&'a [u16]);
+
+impl fmt::Display for Places<'_> {
+    fn fmt(&self, f: &mut fmt::Formatter<'_>) -> fmt::Result {
+        for place in self.0 {
+            write!(f, " {place}")?;
+        }
+        Ok(())
+    }
+}
 
 // A refusal, by its number and place.
 pub(crate) fn tell_refusal(rt: &HostRuntime, call: &str, fault: PlannerFault) -> io::Result<()> {
-    let code = fault.code();
+    let code = FaultCode::from(fault);
     println!(rt; "{call} is refused with {} at {}.", code.number, code.place)
 }
 
@@ -29,11 +42,10 @@ pub(crate) fn tell_links(
 ) -> io::Result<()> {
     match answer {
         Ok(count) => {
-            print!(rt; "{what} takes links")?;
-            for place in places.iter().take(count) {
-                print!(rt; " {place}")?;
-            }
-            println!(rt; ".")
+            println!(rt;
+                "{what} takes links{}.",
+                Places(&places[..count.min(places.len())])
+            )
         }
         Err(fault) => tell_refusal(rt, what, fault),
     }
