@@ -3,12 +3,16 @@ use definitions::FaultCode;
 use histories::fault::PlannerFault;
 use std::{fmt, io};
 
-// Places in their order, each after a space.
-struct Places<'a>(&'a [u16]);
+// The first places of a buffer, each after a space.
+#[derive(Clone, Copy)]
+struct Places<'a> {
+    buffer: &'a [u16],
+    count: usize,
+}
 
 impl fmt::Display for Places<'_> {
-    fn fmt(&self, f: &mut fmt::Formatter<'_>) -> fmt::Result {
-        for place in self.0 {
+    fn fmt<W: fmt::Write>(&self, f: &mut fmt::Formatter<W>) -> fmt::Result {
+        for place in self.buffer.iter().take(self.count) {
             write!(f, " {place}")?;
         }
         Ok(())
@@ -38,15 +42,10 @@ pub(crate) fn tell_links(
     rt: &HostRuntime,
     what: &str,
     answer: Result<usize, PlannerFault>,
-    places: &[u16],
+    buffer: &[u16],
 ) -> io::Result<()> {
     match answer {
-        Ok(count) => {
-            println!(rt;
-                "{what} takes links{}.",
-                Places(&places[..count.min(places.len())])
-            )
-        }
+        Ok(count) => println!(rt; "{what} takes links{}.", Places { buffer, count }),
         Err(fault) => tell_refusal(rt, what, fault),
     }
 }
@@ -56,12 +55,14 @@ pub(crate) fn tell_trace(
     rt: &HostRuntime,
     what: &str,
     answer: Result<(u64, usize), PlannerFault>,
-    places: &[u16],
+    buffer: &[u16],
 ) -> io::Result<()> {
     match answer {
         Ok((value, count)) => {
-            print!(rt; "{what} has the value {value}; it")?;
-            tell_links(rt, "", Ok(count), places)
+            println!(rt;
+                "{what} has the value {value}; it takes links{}.",
+                Places { buffer, count }
+            )
         }
         Err(fault) => tell_refusal(rt, what, fault),
     }
