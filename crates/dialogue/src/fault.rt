@@ -58,7 +58,7 @@ impl From<ConsoleFault> for FaultCode {
         match fault.cause {
             Cause::Line(carried) => FaultCode::from(carried),
             Cause::Map(carried) => carried.code(),
-            Cause::Planner(carried) => carried.code(),
+            Cause::Planner(carried) => FaultCode::from(*carried),
         }
     }
 }

@@ -15,7 +15,7 @@ use Rattle.histories.specs.declared.fault.PlannerFault.{PlannerFault}
 use Rattle.histories.specs.declared.call.Event.{Event}
 use Rattle.histories.specs.declared.call.Call.TheVariants as call
 use Rattle.histories.specs.Questions.{Moves, Fails, Fits}
-use Rattle.histories.specs.State.{State, marked, in_service, Stands, Right}
+use Rattle.histories.specs.State.{State, marked, in_service, Stands}
 use Rattle.routes.specs.Walks.{written}
 use Rattle.histories.specs.Answers.{GuaranteeAnswer, NextAnswer, RouteAnswer, BackupAnswer, TraceAnswer}
 use Rattle.histories.specs.Histories.{After, Accepted, Standing}
@@ -54,19 +54,19 @@ module _ (m : Scale) (M : Laws m) (s : State) (N : Limits s.net) (u : ℕ) where
   limits : Limits (in_service s)
   limits = without_limits (marked s.marks) s.net N
 
-  pub accept_guarantee : (r : Result ℕ PlannerFault) → (Right m s → GuaranteeAnswer m s u r) → (h : List Event) → After m s.net h s →
+  pub accept_guarantee : (r : Result ℕ PlannerFault) → GuaranteeAnswer m s u r → (h : List Event) → After m s.net h s →
       (is_ok r ≡ true) ↔ Accepted m s.net h (marked s.marks) (call.Guarantee u)
   accept_guarantee r A h a =
       reads_accepted m (in_service s) (Stands s) (Standing h) u (λ f. r ≡ Err f) (λ t g. r ≡ Ok g) (is_ok r) (λ t. Unit {0}) a.standing one (λ f e. ap is_ok e)
-      (λ t g st lt G e. (λ _. tt, λ _. ap is_ok e)) (A (after_right m s.net h s a))
+      (λ t g st lt G e. (λ _. tt, λ _. ap is_ok e)) A
 
-  pub accept_next : (r : Result ℕ PlannerFault) → (Right m s → NextAnswer m s u r) → (h : List Event) → After m s.net h s →
+  pub accept_next : (r : Result ℕ PlannerFault) → NextAnswer m s u r → (h : List Event) → After m s.net h s →
       (is_ok r ≡ true) ↔ Accepted m s.net h (marked s.marks) (call.Next u)
   accept_next r A h a =
       reads_accepted m (in_service s) (Stands s) (Standing h) u (λ f. r ≡ Err f)
       (λ t g. Moves u t (λ f. r ≡ Err f) ((k : ℕ) × (l : Link) × Next (worst m (in_service s) t) (in_service s) t u k l × (r ≡ Ok k))) (is_ok r)
       (λ t. Moves u t (λ f. ⊥) ((k : ℕ) × (l : Link) × Next (worst m (in_service s) t) (in_service s) t u k l × Unit {0})) a.standing one (λ f e. ap is_ok e)
-      (λ t g st lt G x. here t x) (A (after_right m s.net h s a))
+      (λ t g st lt G x. here t x) A
     where
       here : (t : ℕ) → Moves u t (λ f. r ≡ Err f) ((k : ℕ) × (l : Link) × Next (worst m (in_service s) t) (in_service s) t u k l × (r ≡ Ok k)) →
           (is_ok r ≡ true) ↔ Moves u t (λ f. ⊥) ((k : ℕ) × (l : Link) × Next (worst m (in_service s) t) (in_service s) t u k l × Unit {0})
@@ -85,7 +85,7 @@ module _ (m : Scale) (M : Laws m) (s : State) (N : Limits s.net) (u : ℕ) where
       λ js q x. elim x [ inl (le, _) ↦ absurd (out ((size ks lt).0 (subst (λ y. length y ≤ room) (sym (same ks js p q)) le))) | inr (_, z) ↦ absurd z ],
     )
 
-    pub accept_route : (r : Result ℕ PlannerFault) → (Right m s → RouteAnswer m s u buffer r buffer') → (h : List Event) → After m s.net h s →
+    pub accept_route : (r : Result ℕ PlannerFault) → RouteAnswer m s u buffer r buffer' → (h : List Event) → After m s.net h s →
         (is_ok r ≡ true) ↔ Accepted m s.net h (marked s.marks) (call.Route u room)
     accept_route r A h a =
         reads_accepted m (in_service s) (Stands s) (Standing h) u (λ f. (r ≡ Err f) × (buffer' ≡ buffer))
@@ -95,16 +95,16 @@ module _ (m : Scale) (M : Laws m) (s : State) (N : Limits s.net) (u : ℕ) where
         let short = held_short (worst m (in_service s) t) (in_service s) limits t u ks H lt in
         let both = fitting r (Held (worst m (in_service s) t) (in_service s) t u) (λ ks. (r ≡ Ok (length ks)) × (buffer' ≡ written ks buffer)) (λ ks y. ap is_ok y.0)
         (λ x y p q. held_one (worst m (in_service s) t) (in_service s) t u x y p q) ks H (omega (arith, limits.few_nodes)) F in
-        (λ x. (ks, H, both.0 x), λ (js, J, x). both.1 js J x)) (A (after_right m s.net h s a))
+        (λ x. (ks, H, both.0 x), λ (js, J, x). both.1 js J x)) A
 
-    pub accept_backup : (r : Result ℕ PlannerFault) → (Right m s → BackupAnswer m s u buffer r buffer') → (h : List Event) → After m s.net h s →
+    pub accept_backup : (r : Result ℕ PlannerFault) → BackupAnswer m s u buffer r buffer' → (h : List Event) → After m s.net h s →
         (is_ok r ≡ true) ↔ Accepted m s.net h (marked s.marks) (call.Backup u room)
     accept_backup r A h a =
         reads_accepted m (in_service s) (Stands s) (Standing h) u (λ f. (r ≡ Err f) × (buffer' ≡ buffer))
         (λ t g. Moves u t (λ f. (r ≡ Err f) × (buffer' ≡ buffer)) ((k : ℕ) × (l : Link) × (ks : List ℕ) × Next (worst m (in_service s) t) (in_service s) t u k l × Backup m (in_service s) t k ks ×
         Fits ks (length buffer) (λ f. (r ≡ Err f) × (buffer' ≡ buffer)) ((r ≡ Ok (length ks)) × (buffer' ≡ written ks buffer)))) (is_ok r)
         (λ t. Moves u t (λ f. ⊥) ((k : ℕ) × (l : Link) × (ks : List ℕ) × Next (worst m (in_service s) t) (in_service s) t u k l × Backup m (in_service s) t k ks × Fits ks room (λ f. ⊥) (Unit {0})))
-        a.standing one (λ f e. ap is_ok e.0) (λ t g st lt G x. here t x) (A (after_right m s.net h s a))
+        a.standing one (λ f e. ap is_ok e.0) (λ t g st lt G x. here t x) A
       where
         here : (t : ℕ) → Moves u t (λ f. (r ≡ Err f) × (buffer' ≡ buffer)) ((k : ℕ) × (l : Link) × (ks : List ℕ) × Next (worst m (in_service s) t) (in_service s) t u k l × Backup m (in_service s) t k ks ×
             Fits ks (length buffer) (λ f. (r ≡ Err f) × (buffer' ≡ buffer)) ((r ≡ Ok (length ks)) × (buffer' ≡ written ks buffer))) →
@@ -146,11 +146,11 @@ module _ (m : Scale) (M : Laws m) (s : State) (N : Limits s.net) (u : ℕ) where
       here t on (OneGroup b) (inr (none, (e, _))) = (λ x. absurd (apart (sym x ∙ ap is_ok e)), λ x. elim x [ inl (lt, _) ↦ absurd (none lt) | inr (_, z) ↦ absurd z ])
       here t on (OneGroup b) (inl (lt, T)) = (λ x. inl (lt, (on T).0 x), λ x. elim x [ inl (_, y) ↦ (on T).1 y | inr (_, z) ↦ absurd z ])
 
-      pub accept_trace : (Right m s → TraceAnswer m s u f buffer r buffer') → (h : List Event) → After m s.net h s →
+      pub accept_trace : TraceAnswer m s u f buffer r buffer' → (h : List Event) → After m s.net h s →
           (is_ok r ≡ true) ↔ Accepted m s.net h (marked s.marks) (call.Trace u f room)
       accept_trace A h a =
           let right = after_right m s.net h s a in
           reads_accepted m (in_service s) (Stands s) (Standing h) u Refusing
           (λ t g. Fails s.net f Refusing (Tracing t)) (is_ok r)
           (λ t. Fails s.net f (λ e. ⊥) (Traceable t)) a.standing one (λ f e. ap is_ok e.0)
-          (λ t g st lt G x. let (hs, H) = guarantee_held m M s N right t u st lt g G in here t (went t hs H lt) f x) (A right)
+          (λ t g st lt G x. let (hs, H) = guarantee_held m M s N right t u st lt g G in here t (went t hs H lt) f x) A

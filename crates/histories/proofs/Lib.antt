@@ -6,3 +6,4 @@ pub mod History
 pub mod Promises
 pub mod Accepting
 pub mod Following
+pub mod Unique

@@ -2,7 +2,7 @@
 use definitions::Failure;
 
 // A call of the planner with its arguments; of a buffer the length.
-#[derive(Clone, Copy)]
+#[derive(Clone, Copy, PartialEq, Eq, Debug)]
 pub enum Call {
     Withdraw(usize),
     Restore(usize),
@@ -15,8 +15,15 @@ pub enum Call {
 }
 
 // A call, and whether the planner accepted it.
-#[derive(Clone, Copy)]
+#[derive(Clone, Copy, PartialEq, Eq, Debug)]
 pub struct Event {
     pub call: Call,
     pub accepted: bool,
+}
+
+// What each call that reads the plan finds first: the destination of the plan, and the guarantee of the node.
+#[derive(Clone, Copy, PartialEq, Eq, Debug)]
+pub struct Reading {
+    pub destination: usize,
+    pub guarantee: u64,
 }

@@ -61,15 +61,13 @@ fn incident(rt: &HostRuntime, planner: &mut Planner<Book, Delay>) -> io::Result<
     plan(rt, planner)
 }
 
-// Makes the calls on a planner over the network; gives the network back.
-pub(crate) fn call_by_call(rt: &HostRuntime, network: Book) -> io::Result<Result<Book, Book>> {
-    match Planner::open(rt.alloc(), network) {
-        Ok(mut planner) => {
-            let told = incident(rt, &mut planner);
-            let network = planner.close();
-            told?;
-            Ok(Ok(network))
-        }
-        Err(network) => Ok(Err(network)),
-    }
+// Makes the calls on a planner over the network, and gives the network back if there was memory for a planner.
+pub(crate) fn call_by_call(rt: &HostRuntime, network: Book) -> io::Result<Option<Book>> {
+    let Ok(mut planner) = Planner::open(rt.alloc(), network) else {
+        return Ok(None);
+    };
+    let told = incident(rt, &mut planner);
+    let network = planner.close();
+    told?;
+    Ok(Some(network))
 }

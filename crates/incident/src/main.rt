@@ -14,7 +14,7 @@ fn main(rt: HostRuntime) -> io::Result<()> {
         return println!(rt; "There is no memory for the network.");
     };
     println!(rt; "Call by call.")?;
-    let Ok(network) = calls::call_by_call(&rt, network)? else {
+    let Some(network) = calls::call_by_call(&rt, network)? else {
         return println!(rt; "There is no memory for a planner.");
     };
     println!(rt; "The same calls as one list, and then with the link put back.")?;

@@ -17,16 +17,17 @@ fn asked(call: Call) -> Event {
 
 // A call of the list, and whether it was accepted.
 fn tell_event(rt: &HostRuntime, event: Event) -> io::Result<()> {
+    let answer = if event.accepted {
+        "accepted"
+    } else {
+        "refused"
+    };
     match event.call {
-        Call::Withdraw(place) => print!(rt; "Withdraw of link {place}")?,
-        Call::Restore(place) => print!(rt; "Restore of link {place}")?,
-        Call::Plan(node) => print!(rt; "Plan to node {node}")?,
-        _ => print!(rt; "A reading call")?,
+        Call::Withdraw(place) => println!(rt; "Withdraw of link {place} was {answer}."),
+        Call::Restore(place) => println!(rt; "Restore of link {place} was {answer}."),
+        Call::Plan(node) => println!(rt; "Plan to node {node} was {answer}."),
+        _ => println!(rt; "A reading call was {answer}."),
     }
-    if event.accepted {
-        return println!(rt; " was accepted.");
-    }
-    println!(rt; " was refused.")
 }
 
 // Makes the calls of a list, then asks for the guarantee and the route of node 0 and for its trace with the duct cut.

@@ -1,10 +1,27 @@
 // Answers of the planner in sentences.
+use definitions::FaultCode;
 use histories::fault::PlannerFault;
-use std::io;
+use std::{fmt, io};
+
+// The first places of a buffer, each after a space.
+#[derive(Clone, Copy)]
+struct Places<'a> {
+    buffer: &'a [u16],
+    count: usize,
+}
+
+impl fmt::Display for Places<'_> {
+    fn fmt<W: fmt::Write>(&self, f: &mut fmt::Formatter<W>) -> fmt::Result {
+        for place in self.buffer.iter().take(self.count) {
+            write!(f, " {place}")?;
+        }
+        Ok(())
+    }
+}
 
 // A refusal, by its number and place.
 pub(crate) fn tell_refusal(rt: &HostRuntime, call: &str, fault: PlannerFault) -> io::Result<()> {
-    let code = fault.code();
+    let code = FaultCode::from(fault);
     println!(rt; "{call} is refused with {} at {}.", code.number, code.place)
 }
 
@@ -25,16 +42,10 @@ pub(crate) fn tell_links(
     rt: &HostRuntime,
     what: &str,
     answer: Result<usize, PlannerFault>,
-    places: &[u16],
+    buffer: &[u16],
 ) -> io::Result<()> {
     match answer {
-        Ok(count) => {
-            print!(rt; "{what} takes links")?;
-            for place in places.iter().take(count) {
-                print!(rt; " {place}")?;
-            }
-            println!(rt; ".")
-        }
+        Ok(count) => println!(rt; "{what} takes links{}.", Places { buffer, count }),
         Err(fault) => tell_refusal(rt, what, fault),
     }
 }
@@ -44,12 +55,14 @@ pub(crate) fn tell_trace(
     rt: &HostRuntime,
     what: &str,
     answer: Result<(u64, usize), PlannerFault>,
-    places: &[u16],
+    buffer: &[u16],
 ) -> io::Result<()> {
     match answer {
         Ok((value, count)) => {
-            print!(rt; "{what} has the value {value}; it")?;
-            tell_links(rt, "", Ok(count), places)
+            println!(rt;
+                "{what} has the value {value}; it takes links{}.",
+                Places { buffer, count }
+            )
         }
         Err(fault) => tell_refusal(rt, what, fault),
     }

@@ -4,10 +4,8 @@ use Rattle.definitions.specs.Networks.{Net, Limits}
 use Rattle.definitions.specs.Measures.{Scale}
 use Rattle.histories.specs.declared.fault.PlannerFault.{PlannerFault}
 use Rattle.histories.specs.declared.call.Call.TheVariants as call
-use Rattle.histories.specs.State.{Right}
 use Rattle.histories.specs.Answers.{WithdrawAnswer, RestoreAnswer, PlanAnswer}
 use Rattle.histories.specs.Histories.{Follows}
-use Rattle.histories.proofs.History.{withdraw_right, restore_right, plan_right}
 use Rattle.histories.proofs.Following.{withdraw_follows, restore_follows, plan_follows}
 use Rattle.networks.specs.declared.network.Network.{Ghosts as NetworkGhosts}
 use Rattle.measures.specs.declared.Measure.{Ghosts as MeasureGhosts}
@@ -21,14 +19,12 @@ module _ {N M : Type 0} {gn : NetworkGhosts N} {gm : MeasureGhosts M} (meaning :
         answer : WithdrawAnswer (state meaning p) k r (state meaning p');
         keeps : p'.network ≡ p.network;
         unchanged : Unchanged r p p';
-        right : Right m (state meaning p) → Right m (state meaning p');
         follows : Follows m (state meaning p) (call.Withdraw k) (is_ok r) (state meaning p');
       }
   withdraw_kept k r A K U = record {
     answer = A;
     keeps = K;
     unchanged = U;
-    right = λ R. withdraw_right m (state meaning p) (state meaning p') R k r A;
     follows = withdraw_follows m (state meaning p) (state meaning p') k r (room meaning limits p k) A;
   }
 
@@ -37,14 +33,12 @@ module _ {N M : Type 0} {gn : NetworkGhosts N} {gm : MeasureGhosts M} (meaning :
         answer : RestoreAnswer (state meaning p) k r (state meaning p');
         keeps : p'.network ≡ p.network;
         unchanged : Unchanged r p p';
-        right : Right m (state meaning p) → Right m (state meaning p');
         follows : Follows m (state meaning p) (call.Restore k) (is_ok r) (state meaning p');
       }
   restore_kept k r A K U = record {
     answer = A;
     keeps = K;
     unchanged = U;
-    right = λ R. restore_right m (state meaning p) (state meaning p') R k r A;
     follows = restore_follows m (state meaning p) (state meaning p') k r (room meaning limits p k) A;
   }
 
@@ -53,13 +47,11 @@ module _ {N M : Type 0} {gn : NetworkGhosts N} {gm : MeasureGhosts M} (meaning :
         answer : PlanAnswer m (state meaning p) t r (state meaning p');
         keeps : p'.network ≡ p.network;
         unchanged : Unchanged r p p';
-        right : Right m (state meaning p) → Right m (state meaning p');
         follows : Follows m (state meaning p) (call.Plan t) (is_ok r) (state meaning p');
       }
   plan_kept t r A K U = record {
     answer = A;
     keeps = K;
     unchanged = U;
-    right = λ R. plan_right m (state meaning p) (state meaning p') R t r A;
     follows = plan_follows m (state meaning p) (state meaning p') t r A;
   }

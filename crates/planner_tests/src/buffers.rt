@@ -1,5 +1,5 @@
 // Buffers that are too short, just long enough, and longer; and the destination's empty routes.
-use crate::example::{code, example, refusal};
+use crate::example::{code, example, opened, refusal};
 use definitions::Failure;
 use measures::Delay;
 use networks::draft::Book;
@@ -37,13 +37,8 @@ fn all(rt: &impl Abort, planner: &mut Planner<Book, Delay>) -> Result<(), Fail> 
 
 #[test]
 fn buffers_and_the_destination(rt: HostRuntime) -> Result<(), Fail> {
-    let network = example(rt.alloc(), 0)?;
-    match Planner::open(rt.alloc(), network) {
-        Ok(mut planner) => {
-            let passed = all(&rt, &mut planner);
-            let _ = planner.close();
-            passed
-        }
-        Err(_) => Err(Fail::new("no memory")),
-    }
+    let mut planner = opened(rt.alloc(), example(rt.alloc(), 0)?)?;
+    let passed = all(&rt, &mut planner);
+    drop(planner.close());
+    passed
 }

@@ -1,5 +1,5 @@
 // Answers on the example network.
-use crate::example::{code, example, refusal};
+use crate::example::{code, example, opened, refusal};
 use definitions::Failure;
 use measures::{Delay, Width};
 use networks::draft::Book;
@@ -26,15 +26,10 @@ fn delays(rt: &impl Abort, planner: &mut Planner<Book, Delay>) -> Result<(), Fai
 // Guarantees, next links and traces by delay.
 #[test]
 fn example_by_delay(rt: HostRuntime) -> Result<(), Fail> {
-    let network = example(rt.alloc(), 0)?;
-    match Planner::open(rt.alloc(), network) {
-        Ok(mut planner) => {
-            let passed = delays(&rt, &mut planner);
-            let _ = planner.close();
-            passed
-        }
-        Err(_) => Err(Fail::new("no memory")),
-    }
+    let mut planner = opened(rt.alloc(), example(rt.alloc(), 0)?)?;
+    let passed = delays(&rt, &mut planner);
+    drop(planner.close());
+    passed
 }
 
 fn widths(rt: &impl Abort, planner: &mut Planner<Book, Width>) -> Result<(), Fail> {
@@ -49,15 +44,10 @@ fn widths(rt: &impl Abort, planner: &mut Planner<Book, Width>) -> Result<(), Fai
 // Guarantees by width; of two next links the lower number is held.
 #[test]
 fn example_by_width(rt: HostRuntime) -> Result<(), Fail> {
-    let network = example(rt.alloc(), 0)?;
-    match Planner::open(rt.alloc(), network) {
-        Ok(mut planner) => {
-            let passed = widths(&rt, &mut planner);
-            let _ = planner.close();
-            passed
-        }
-        Err(_) => Err(Fail::new("no memory")),
-    }
+    let mut planner = opened(rt.alloc(), example(rt.alloc(), 0)?)?;
+    let passed = widths(&rt, &mut planner);
+    drop(planner.close());
+    passed
 }
 
 fn duct(rt: &impl Abort, planner: &mut Planner<Book, Delay>) -> Result<(), Fail> {
@@ -71,15 +61,10 @@ fn duct(rt: &impl Abort, planner: &mut Planner<Book, Delay>) -> Result<(), Fail>
 // With both links into the destination in one duct, only the destination has a guarantee.
 #[test]
 fn links_in_one_duct(rt: HostRuntime) -> Result<(), Fail> {
-    let network = example(rt.alloc(), 1)?;
-    match Planner::open(rt.alloc(), network) {
-        Ok(mut planner) => {
-            let passed = duct(&rt, &mut planner);
-            let _ = planner.close();
-            passed
-        }
-        Err(_) => Err(Fail::new("no memory")),
-    }
+    let mut planner = opened(rt.alloc(), example(rt.alloc(), 1)?)?;
+    let passed = duct(&rt, &mut planner);
+    drop(planner.close());
+    passed
 }
 
 fn marks(rt: &impl Abort, planner: &mut Planner<Book, Delay>) -> Result<(), Fail> {
@@ -101,13 +86,8 @@ fn marks(rt: &impl Abort, planner: &mut Planner<Book, Delay>) -> Result<(), Fail
 // Withdrawn, withdrawn again, put back and planned again, the first plan stands again.
 #[test]
 fn withdraw_and_restore(rt: HostRuntime) -> Result<(), Fail> {
-    let network = example(rt.alloc(), 0)?;
-    match Planner::open(rt.alloc(), network) {
-        Ok(mut planner) => {
-            let passed = marks(&rt, &mut planner);
-            let _ = planner.close();
-            passed
-        }
-        Err(_) => Err(Fail::new("no memory")),
-    }
+    let mut planner = opened(rt.alloc(), example(rt.alloc(), 0)?)?;
+    let passed = marks(&rt, &mut planner);
+    drop(planner.close());
+    passed
 }

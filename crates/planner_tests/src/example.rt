@@ -1,48 +1,60 @@
 // The example network of four nodes, and helpers that the tests share.
 use definitions::{FaultCode, Link};
 use histories::fault::PlannerFault;
-use networks::draft::{Book, Draft, DraftFault};
+use measures::Measure;
+use networks::draft::{Book, DraftFault};
+use networks::network::Network;
+use planner::planner::Planner;
 use std::alloc::Global;
+use std::test::Fail;
+
+// A link with its tail, head, figure and groups.
+fn link(tail: u16, head: u16, figure: u32, groups: u32) -> Link {
+    Link {
+        tail,
+        head,
+        figure,
+        groups,
+    }
+}
 
 // Four nodes and six links; `duct` is the groups of links 1 and 3.
 pub(crate) fn example(heap: Global, duct: u32) -> Result<Book, DraftFault> {
-    let mut draft = Draft::new(heap);
-    draft.size(4)?;
-    for (tail, head, figure, groups) in [
-        (0, 1, 2, 0),
-        (1, 3, 3, duct),
-        (1, 2, 9, 0),
-        (2, 3, 4, duct),
-        (0, 2, 5, 0),
-        (2, 1, 2, 0),
-    ] {
-        draft.add(Link {
-            tail,
-            head,
-            figure,
-            groups,
-        })?;
+    Book::from_links(
+        heap,
+        4,
+        &[
+            link(0, 1, 2, 0),
+            link(1, 3, 3, duct),
+            link(1, 2, 9, 0),
+            link(2, 3, 4, duct),
+            link(0, 2, 5, 0),
+            link(2, 1, 2, 0),
+        ],
+    )
+}
+
+// A planner over a network. Stays a planner that each test closes: a closure's bound cannot name a planner's type.
+pub(crate) fn opened<N: Network + Drop, M: Measure>(
+    heap: Global,
+    network: N,
+) -> Result<Planner<N, M>, Fail> {
+    match Planner::open(heap, network) {
+        Ok(planner) => Ok(planner),
+        Err(_) => Err(Fail::new("no memory")),
     }
-    Ok(draft.close())
 }
 
 // A refusal of the planner.
-pub(crate) fn refusal(number: u8, place: usize) -> FaultCode {
-    FaultCode {
+pub(crate) fn refusal(number: u8, place: usize) -> Option<FaultCode> {
+    Some(FaultCode {
         layer: 3,
         number,
         place,
-    }
+    })
 }
 
-// The code of a refusal; all zeros for an answer.
-pub(crate) fn code<T: Drop>(answer: Result<T, PlannerFault>) -> FaultCode {
-    match answer {
-        Ok(_) => FaultCode {
-            layer: 0,
-            number: 0,
-            place: 0,
-        },
-        Err(fault) => fault.code(),
-    }
+// The code of a refusal; none for an answer.
+pub(crate) fn code<T: Drop>(answer: Result<T, PlannerFault>) -> Option<FaultCode> {
+    answer.err().map(FaultCode::from)
 }

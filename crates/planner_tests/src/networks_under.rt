@@ -1,5 +1,5 @@
 // Planners over an opened map, over a lent network and over layers in a pile.
-use crate::example::example;
+use crate::example::{example, opened};
 use maps::map::Map;
 use maps::writing::write;
 use measures::Delay;
@@ -12,14 +12,10 @@ use std::test::Fail;
 
 // Opens a planner over any network, plans to node 3, and answers how many nodes have a guarantee.
 fn guaranteed<N: Network + Drop>(heap: Global, network: N) -> Result<usize, Fail> {
-    match Planner::<N, Delay>::open(heap, network) {
-        Ok(mut planner) => {
-            let count = planner.plan(3);
-            let _ = planner.close();
-            Ok(count?)
-        }
-        Err(_) => Err(Fail::new("no memory")),
-    }
+    let mut planner: Planner<N, Delay> = opened(heap, network)?;
+    let count = planner.plan(3);
+    drop(planner.close());
+    Ok(count?)
 }
 
 #[test]

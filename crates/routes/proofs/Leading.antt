@@ -12,7 +12,6 @@ use Rattle.definitions.proofs.Layers.{without_limits}
 use Rattle.definitions.proofs.Lawfuls.{Value, plain_lawful, worst_lawful}
 use Rattle.routes.specs.declared.record.NodeRecord.{NodeRecord}
 use Rattle.routes.specs.Records.{Recorded, SearchAnswer, Leads, value_of, steps_of, next_of}
-use Rattle.routes.specs.Walks.{or_zero}
 
 pub some_one : {A : Type 0} (x y : A) → Some x ≡ Some y → x ≡ y
 some_one x y e = cc
@@ -45,22 +44,17 @@ module _ (ρ : Valuation) (net : Net) (t : ℕ) (Fit : ℕ → Type 0) (L : Lawf
       (k, l, x, K)
 
 module _ (m : Scale) (M : Laws m) (net : Net) (N : Limits net) (t : ℕ) (rs : List NodeRecord) (D : Recorded (worst m net t) net t rs) where
-  -- the backup of the next link of u, by the records of the layer at risk with it
-  pub detour : (u g : ℕ) (layer : List NodeRecord) → (u ≡ t → ⊥) → value_of rs u ≡ Some g → Recorded (plain m) (at_risk (or_zero (next_of rs u)) net) t layer →
-      (k : ℕ) × (l : Link) × (ks : List ℕ) × Next (worst m net t) net t u k l × Backup m net t k ks ×
-      Leads (at_risk (or_zero (next_of rs u)) net) (next_of layer) t u ks × (steps_of layer u ≡ Some (length ks))
-  detour u g layer ne lab E =
-      let (k, l, n, K) = onwards (worst m net t) net t Value (worst_lawful m M net N t) rs D u g lab ne in
-      let k₀ : or_zero (next_of rs u) ≡ k = ap or_zero n in
-      let low = without_limits (risks net (or_zero (next_of rs u))) net N in
-      let L = plain_lawful m M (at_risk (or_zero (next_of rs u)) net) low in
+  -- the backup of the next link x of u, by the records of the layer at risk with it
+  pub detour : (u g x : ℕ) (layer : List NodeRecord) → (u ≡ t → ⊥) → value_of rs u ≡ Some g → next_of rs u ≡ Some x → Recorded (plain m) (at_risk x net) t layer →
+      (l : Link) × (ks : List ℕ) × Next (worst m net t) net t u x l × Backup m net t x ks × Leads (at_risk x net) (next_of layer) t u ks × (steps_of layer u ≡ Some (length ks))
+  detour u g x layer ne lab nx E =
+      let (k, l, n, K') = onwards (worst m net t) net t Value (worst_lawful m M net N t) rs D u g lab ne in
+      let K : Next (worst m net t) net t u x l = subst (λ y. Next (worst m net t) net t u y l) (some_one k x (sym n ∙ nx)) K' in
+      let L = plain_lawful m M (at_risk x net) (without_limits (risks net x) net N) in
       let (r, R, e) = K.tight.exact in
-      let R' = subst (λ x. Best (plain m) (at_risk x net) t l.tail r) (sym k₀) R in
-      let lab' : value_of layer l.tail ≡ Some r = best_label (plain m) (at_risk (or_zero (next_of rs u)) net) t Value L (value_of layer) E.labels l.tail r R' in
-      let lab'' : value_of layer u ≡ Some r = subst (λ x. value_of layer x ≡ Some r) K.starts lab' in
-      let (ks, H, P, s) = way (plain m) (at_risk (or_zero (next_of rs u)) net) t Value L layer E u r lab'' in
-      let H' : Held (plain m) (at_risk k net) t l.tail ks = subst (λ x. Held (plain m) (at_risk k net) t x ks) (sym K.starts) (subst (λ x. Held (plain m) (at_risk x net) t u ks) k₀ H) in
-      (k, l, ks, K, (l, K.holds, H'), P, s)
+      let lab' : value_of layer u ≡ Some r = subst (λ y. value_of layer y ≡ Some r) K.starts (best_label (plain m) (at_risk x net) t Value L (value_of layer) E.labels l.tail r R) in
+      let (ks, H, P, s) = way (plain m) (at_risk x net) t Value L layer E u r lab' in
+      (l, ks, K, (l, K.holds, subst (λ y. Held (plain m) (at_risk x net) t y ks) (sym K.starts) H), P, s)
 
 -- a search with a destination that is a node leaves its records
 pub searched : (ρ : Valuation) (net : Net) (t : ℕ) (rs rs' : List NodeRecord) (r : Bool) → t < net.nodes → length rs ≡ 256 → SearchAnswer ρ net t rs r rs' → Recorded ρ net t rs'

@@ -1,6 +1,8 @@
 -- Walks along next links.
-use Rattle.std.proofs.Common.{◌≡◌, ℕ, ◌+◌, ◌-◌, ◌<◌, ◌≤◌, true, false, List, [], ◌∷◌, ◌++◌, length, get_or, take, drop, set, is_some, Some, None, Option, sym, refl, ap, ◌∙◌, subst, append_assoc, append-nil, arith, length-append, length-take}
-use Rattle.std.proofs.lemmas.List.{take_more_set, drop_more}
+use Rattle.std.proofs.Common.{◌≡◌, ℕ, ◌+◌, ◌-◌, ◌<◌, ◌≤◌, true, false, List, [], ◌∷◌, ◌++◌, length, fold, reverse, get_or, take, drop, set, is_some, Some, None, Option, sym, refl, ap, ◌∙◌, subst, append_assoc, append-nil, arith, length-append, length-take}
+use mathlib.Core.List.{reverse-cons}
+use Rattle.std.proofs.lemmas.List.{take_more_set}
+use Rattle.std.proofs.lemmas.List.Sums.{fold-append}
 use Rattle.definitions.specs.declared.Link.{Link}
 use Rattle.definitions.specs.declared.Failure.{Failure}
 use Rattle.definitions.specs.Networks.{Net, Holds, place, failed}
@@ -78,11 +80,12 @@ module _ (net : Net) (nx : ℕ → Option ℕ) where
         spared_more net f js k s ok,
       )
 
-pub value_more : (m : Scale) (net : Net) (xs : List ℕ) (i : ℕ) → 0 < i → i ≤ length xs → plain_value m net (drop (i - 1) xs) ≡ extended m (place net.places (get_or xs (i - 1) 0)) (plain_value m net (drop i xs))
-value_more m net xs i lt le =
-    let a = drop_more xs (i - 1) 0 (omega arith) in
-    let b : i - 1 + 1 ≡ i = omega arith in
-    ap (plain_value m net) (a ∙ ap (λ j. get_or xs (i - 1) 0 ∷ drop j xs) b)
+-- the figures from the last to the first make the plain value
+pub plain_folded : (m : Scale) (net : Net) (xs : List ℕ) → fold (λ v k. extended m (place net.places k) v) m.start (reverse xs) ≡ plain_value m net xs
+plain_folded m net [] = refl
+plain_folded m net (k ∷ ks) =
+    let f : ℕ → ℕ → ℕ = λ v j. extended m (place net.places j) v in
+    ap (fold f m.start) (reverse-cons k ks) ∙ (fold-append f m.start (reverse ks) (k ∷ []) ∙ ap (extended m (place net.places k)) (plain_folded m net ks))
 
 -- the value of the places of a route is its plain value
 pub value_computed : (m : Scale) (net : Net) (t u : ℕ) (ks : List ℕ) (w : ℕ) → RouteValue (plain m) net t u ks w → w ≡ plain_value m net ks

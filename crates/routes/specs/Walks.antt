@@ -1,15 +1,16 @@
 -- Walks along next links, and the plain value of the places of a route.
-use Rattle.std.specs.Prelude.{◌≡◌, ℕ, ◌<◌, ◌≤◌, true, false, ◌⊎◌, List, [], ◌∷◌, ◌++◌, length, drop, Some, None, Ok, Err, Option, Result}
+use Rattle.std.specs.Prelude.{◌≡◌, ℕ, ◌<◌, ◌≤◌, true, false, ◌⊎◌, List, [], ◌∷◌, ◌++◌, length, drop, Some, None, Ok, Err, Option, Result, unwrap_or}
 use Rattle.definitions.specs.declared.Link.{Link}
 use Rattle.definitions.specs.declared.Failure.{Failure}
 use Rattle.definitions.specs.Networks.{Net, place, failed}
 use Rattle.definitions.specs.Measures.{Scale}
 use Rattle.routes.specs.declared.record.NodeRecord.{NodeRecord}
+use Rattle.routes.specs.declared.walk.NoRoom.{NoRoom}
 use Rattle.routes.specs.Records.{Leads, steps_of, next_of}
 
-abbrev pub or_zero : Option ℕ → ℕ
-or_zero None = 0
-or_zero (Some x) = x
+-- How many links the held route of u has by the records: its steps, and none where the search did not reach it.
+abbrev pub links_of : List NodeRecord → ℕ → ℕ
+links_of rs u = unwrap_or (steps_of rs u) 0
 
 -- v extended by the figure of the link, if there is one
 abbrev pub extended : Scale → Option Link → ℕ → ℕ
@@ -49,8 +50,8 @@ pub record Fronted (net : Net) (rs : List NodeRecord) (u c : ℕ) (buffer buffer
   pub along : (e : ℕ) (ks : List ℕ) → Leads net (next_of rs) e u ks → length ks ≡ c → front ≡ ks
 
 -- The places of a node's held route, as many as its steps c, stand at the start of the buffer and the rest of it is as
--- before; or the buffer is too short, c is the refusal, and nothing is written.
-abbrev pub RouteWritten : Net → List NodeRecord → ℕ → List ℕ → Result ℕ ℕ → List ℕ → Type 0
+-- before; or the buffer is too short, so many entries are needed, and nothing is written.
+abbrev pub RouteWritten : Net → List NodeRecord → ℕ → List ℕ → Result ℕ NoRoom → List ℕ → Type 0
 RouteWritten net rs u buffer r buffer' =
-    ((or_zero (steps_of rs u) ≤ length buffer) × (r ≡ Ok (or_zero (steps_of rs u))) × Fronted net rs u (or_zero (steps_of rs u)) buffer buffer')
-    ⊎ ((length buffer < or_zero (steps_of rs u)) × (r ≡ Err (or_zero (steps_of rs u))) × (buffer' ≡ buffer))
+    ((links_of rs u ≤ length buffer) × (r ≡ Ok (links_of rs u)) × Fronted net rs u (links_of rs u) buffer buffer')
+    ⊎ ((length buffer < links_of rs u) × (r ≡ Err (record { needed = links_of rs u })) × (buffer' ≡ buffer))

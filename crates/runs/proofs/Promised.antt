@@ -13,19 +13,19 @@ use Rattle.runs.specs.declared.Answers.{Answers}
 use Rattle.runs.specs.Promise.{AnswersRight}
 
 pub answers_right : (m : Scale) → Laws m → (s : State) → Limits s.net → (u : ℕ) (f : Failure) (a : Answers) (route route' trace trace' : List ℕ) →
-    (Right m s → GuaranteeAnswer m s u a.guarantee) → (Right m s → RouteAnswer m s u route a.route route') → (Right m s → TraceAnswer m s u f trace a.trace trace') →
+    GuaranteeAnswer m s u a.guarantee → RouteAnswer m s u route a.route route' → TraceAnswer m s u f trace a.trace trace' →
     (n : Net) (h : List Event) → After m n h s → (t : ℕ) → Standing h t → (w : ℕ → Bool) → Marks h w → u < n.nodes → AnswersRight m n (without w n) t u f a route route' trace trace'
 answers_right m M s N u f a route route' trace trace' GA Ra TA = any_calls m s (λ n net t. u < n.nodes → AnswersRight m n net t u f a route route' trace trace') here
   where
     here : (t : ℕ) → Right m s → Stands s t → u < s.net.nodes → AnswersRight m s.net (in_service s) t u f a route route' trace trace'
     here t R st lt =
-        let own = guarantee_promised m M s N R t u st lt a.guarantee (GA R) in
+        let own = guarantee_promised m M s N R t u st lt a.guarantee GA in
         record {
-          best = λ g e. route_held m M s N R t u st lt a.route route route' (Ra R) g (answered_guarantee m M s N R t u st lt a.guarantee (GA R) g e);
+          best = λ g e. route_held m M s N R t u st lt a.route route route' Ra g (answered_guarantee m M s N R t u st lt a.guarantee GA g e);
           refused = own.refused;
           safe = λ w c e.
-              let (g, G, S) = trace_answered m M s N R t u st lt f a.trace trace trace' (TA R) w c e in
-              (g, guarantee_answered m M s N R t u st lt a.guarantee (GA R) g G, S);
-          accepted = λ g e. trace_accepted m M s N R t u st lt f a.trace trace trace' (TA R) g (answered_guarantee m M s N R t u st lt a.guarantee (GA R) g e);
+              let (g, G, S) = trace_answered m M s N R t u st lt f a.trace trace trace' TA w c e in
+              (g, guarantee_answered m M s N R t u st lt a.guarantee GA g G, S);
+          accepted = λ g e. trace_accepted m M s N R t u st lt f a.trace trace trace' TA g (answered_guarantee m M s N R t u st lt a.guarantee GA g e);
           reached = own.reached;
         }

@@ -16,7 +16,7 @@ use planner::planner::Planner;
 use std::alloc::Global;
 
 // What guarantee, route and trace answer for a node.
-#[derive(Clone, Copy)]
+#[derive(Clone, Copy, PartialEq, Eq, Debug)]
 pub struct Answers {
     pub guarantee: Result<u64, PlannerFault>,
     pub route: Result<usize, PlannerFault>,

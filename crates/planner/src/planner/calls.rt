@@ -1,13 +1,13 @@
 // The calls that change a planner.
 ghost use Rattle.std.specs.Prelude.{◌≡◌, ◌<◌, is_ok};
 ghost use Rattle.histories.specs.declared.call.Call.TheVariants.{Withdraw, Restore, Plan};
-ghost use Rattle.histories.specs.State.{marked, remarked, Right};
 ghost use Rattle.histories.specs.Answers.{WithdrawAnswer, RestoreAnswer, PlanAnswer, Replanned};
 ghost use Rattle.histories.specs.Histories.{Follows};
+ghost use Rattle.histories.specs.Parts.{MarkAnswer};
 ghost use Rattle.planner.specs.Planners.{state, OpenAnswer, Unchanged};
 ghost use Rattle.planner.specs.Tally.{tallied};
 
-use crate::planner::Planner;
+use crate::planner::{BLANK, Planner};
 use histories::fault::PlannerFault;
 use measures::Measure;
 use networks::layers::Withdrawn;
@@ -25,15 +25,7 @@ impl<N: Network, M: Measure> Planner<N, M> {
         let Ok(withdrawn) = Vec::from_elem(heap, false, 1024) else {
             return Err(network);
         };
-        let Ok(records) = Vec::from_elem(
-            heap,
-            NodeRecord {
-                value: None,
-                steps: None,
-                next: None,
-            },
-            256,
-        ) else {
+        let Ok(records) = Vec::from_elem(heap, BLANK, 256) else {
             return Err(network);
         };
         Ok(Planner {
@@ -64,17 +56,9 @@ impl<N: Network, M: Measure> Planner<N, M> {
         ensures answer { WithdrawAnswer (state N.Network.meaning self.old) place result (state N.Network.meaning self.new) }
         ensures keeps { self.new.network ≡ self.old.network }
         ensures unchanged { Unchanged result self.old self.new }
-        ensures right { Right M.Measure.scale (state N.Network.meaning self.old) → Right M.Measure.scale (state N.Network.meaning self.new) }
         ensures follows { Follows M.Measure.scale (state N.Network.meaning self.old) (Withdraw place) (is_ok result) (state N.Network.meaning self.new) }
     {
-        if self.network.place(place).is_none() {
-            return Err(PlannerFault::NoLink(place));
-        }
-        if self.is_withdrawn(place) {
-            return Err(PlannerFault::Withdrawn(place));
-        }
-        self.mark(place, true);
-        Ok(())
+        self.set_mark(place, true, PlannerFault::Withdrawn(place))
     }
 
     // Puts a link back into service and ends the plan, or refuses and changes nothing.
@@ -82,17 +66,9 @@ impl<N: Network, M: Measure> Planner<N, M> {
         ensures answer { RestoreAnswer (state N.Network.meaning self.old) place result (state N.Network.meaning self.new) }
         ensures keeps { self.new.network ≡ self.old.network }
         ensures unchanged { Unchanged result self.old self.new }
-        ensures right { Right M.Measure.scale (state N.Network.meaning self.old) → Right M.Measure.scale (state N.Network.meaning self.new) }
         ensures follows { Follows M.Measure.scale (state N.Network.meaning self.old) (Restore place) (is_ok result) (state N.Network.meaning self.new) }
     {
-        if self.network.place(place).is_none() {
-            return Err(PlannerFault::NoLink(place));
-        }
-        if !self.is_withdrawn(place) {
-            return Err(PlannerFault::InService(place));
-        }
-        self.mark(place, false);
-        Ok(())
+        self.set_mark(place, false, PlannerFault::InService(place))
     }
 
     // Plans for a destination and answers how many nodes have a guarantee, or refuses and changes nothing.
@@ -100,7 +76,6 @@ impl<N: Network, M: Measure> Planner<N, M> {
         ensures answer { PlanAnswer M.Measure.scale (state N.Network.meaning self.old) destination result (state N.Network.meaning self.new) }
         ensures keeps { self.new.network ≡ self.old.network }
         ensures unchanged { Unchanged result self.old self.new }
-        ensures right { Right M.Measure.scale (state N.Network.meaning self.old) → Right M.Measure.scale (state N.Network.meaning self.new) }
         ensures follows { Follows M.Measure.scale (state N.Network.meaning self.old) (Plan destination) (is_ok result) (state N.Network.meaning self.new) }
     {
         if destination >= self.network.node_count() {
@@ -111,9 +86,11 @@ impl<N: Network, M: Measure> Planner<N, M> {
 
     // Searches for the plan to a destination, keeps its records, and counts the nodes that have a guarantee.
     fn replan(&mut self, destination: usize) -> usize
-        ensures after { destination < (N.Network.meaning self.old.network).nodes → Replanned M.Measure.scale (state N.Network.meaning self.old) (state N.Network.meaning self.new) destination result }
+        requires { destination < (N.Network.meaning self.old.network).nodes }
+        ensures after { Replanned M.Measure.scale (state N.Network.meaning self.old) (state N.Network.meaning self.new) destination result }
         ensures keeps { self.new.network ≡ self.old.network }
     {
+        // The layer is made of its fields here, since the records beside them are lent for writing.
         let service = Withdrawn {
             network: &self.network,
             marks: &self.withdrawn,
@@ -123,22 +100,26 @@ impl<N: Network, M: Measure> Planner<N, M> {
         guaranteed_nodes(&self.records[..self.network.node_count()])
     }
 
-    // Is the link at this place withdrawn?
-    fn is_withdrawn(&self, place: usize) -> bool
-        ensures { result ≡ marked (state N.Network.meaning self.now).marks place }
-    {
-        place < self.withdrawn.len() && self.withdrawn[place]
-    }
-
-    // Sets the mark of a place and ends the plan.
-    fn mark(&mut self, place: usize, withdrawn: bool)
-        ensures after { state N.Network.meaning self.new ≡ remarked (state N.Network.meaning self.old) place withdrawn }
+    // Sets the mark of a link's place and ends the plan; where the mark is that one already, `already` is the refusal.
+    fn set_mark(
+        &mut self,
+        place: usize,
+        withdrawn: bool,
+        already: PlannerFault,
+    ) -> Result<(), PlannerFault>
+        ensures answer { MarkAnswer (state N.Network.meaning self.old) place withdrawn already result (state N.Network.meaning self.new) }
         ensures keeps { self.new.network ≡ self.old.network }
+        ensures unchanged { Unchanged result self.old self.new }
     {
-        self.destination = None;
-        if place < self.withdrawn.len() {
-            self.withdrawn[place] = withdrawn;
+        self.network
+            .place(place)
+            .ok_or(PlannerFault::NoLink(place))?;
+        if self.withdrawn[place] == withdrawn {
+            return Err(already);
         }
+        self.destination = None;
+        self.withdrawn[place] = withdrawn;
+        Ok(())
     }
 }
 

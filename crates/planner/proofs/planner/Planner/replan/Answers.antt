@@ -13,10 +13,11 @@ use Rattle.planner.proofs.planner.Planner.replan.Goals as goal
 
 pub returns : goal.returns
 returns g c = record {
-  after = λ lt.
+  after =
       let p = c.args.self.now in
       let m = g.M.Measure.scale in
       let n = g.N.Network.meaning p.network in
+      let lt = c.requires in
       let t = c.args.destination in
       let s = state g.N.Network.meaning p in
       let ws = c.worst_records.new.records in
