@@ -9,7 +9,7 @@ use networks::network::Network;
 
 // The links that a survey counts: all, those of a risk group, those that leave a node, or those that enter it.
 // Stays an enum: a closure in its place would have to be required to be callable, and no public call requires anything.
-#[derive(Clone, Copy)]
+#[derive(Clone, Copy, PartialEq, Eq, Debug)]
 pub enum Selection {
     All,
     InGroup(u16),
