@@ -4,12 +4,11 @@ use Rattle.console.specs.declared.command.Command.{Command}
 use Rattle.console.specs.declared.command.LineFault.{LineFault}
 use Rattle.console.specs.declared.measure.MeasureName.{MeasureName}
 use Rattle.console.specs.declared.measure.MeasureName.TheVariants.{Delay, Width}
-use Rattle.console.specs.FirstLine.{measure_named, opening_line}
+use Rattle.console.specs.FirstLine.{opening_line}
 use Rattle.console.specs.Grammar.{reading}
 use Rattle.definitions.specs.Measures.{Scale, delay, width}
 use Rattle.definitions.specs.Networks.{Net}
 use Rattle.histories.specs.State.{State, Right}
-use Rattle.histories.proofs.History.{after_right}
 use Rattle.lines.specs.Dialogues.{Turn, Dialogue as Exchange}
 use Rattle.networks.specs.declared.network.Network.{Ghosts as NetworkGhosts}
 use Rattle.measures.specs.declared.Measure.{Ghosts as MeasureGhosts}
@@ -17,7 +16,7 @@ use Rattle.planner.specs.Planners.{state, network_of}
 use Rattle.dialogue.specs.declared.dialogue.Dialogue.{Dialogue}
 use Rattle.dialogue.specs.declared.fault.Cause.{Cause}
 use Rattle.dialogue.specs.declared.session.Session.{Session}
-use Rattle.dialogue.specs.declared.session.Session.TheVariants.{Opening, ByDelay, ByWidth}
+use Rattle.dialogue.specs.declared.session.Session.TheVariants.{ByDelay, ByWidth}
 use Rattle.dialogue.specs.Dialogues.{Tried, reply, next_number}
 use Rattle.dialogue.specs.Sessions.{is_over, Begun, Later, First, Answered, Sound, Answers}
 use Rattle.dialogue.specs.Outcomes.{Outcome}

@@ -1,12 +1,13 @@
 -- Bytes that come one after another, and the lines that they make.
-use Rattle.std.proofs.Common.{◌≡◌, ℕ, ◌<◌, ◌≤◌, Bool, List, [], ◌∷◌, ◌++◌, length, take, Some, None, Option, sym, refl, ap, ◌∙◌, subst, ⊎_elim, append_assoc, append-nil, arith, length-append, length-take}
+use Rattle.std.proofs.Common.{◌≡◌, ℕ, ◌<◌, ◌≤◌, Bool, List, [], ◌∷◌, ◌++◌, ◌≢◌, length, take, Some, None, Option, sym, refl, ap, ◌∙◌, subst, ⊎_elim, append_assoc, append-nil, arith, length-append, length-take}
 use lib.Seq.{take-append-le}
 use Rattle.std.specs.List.{flat_map}
 use Rattle.std.specs.Option.{unwrap_or}
 use Rattle.std.proofs.lemmas.List.{take_all, flat_map_more}
+use Rattle.std.proofs.lemmas.List.Elements.{All-nil, All-push}
 use Rattle.std.proofs.lemmas.Bool.{cases_lt}
 use Rattle.lines.specs.Dialogues.{kept_of, Turn, Dialogue, Fed, Leads, Completes}
-use Rattle.lines.specs.Lines.{Unbroken, AllUnbroken, broken_off, Cut, LinesOf, TheLines, last_line}
+use Rattle.lines.specs.Lines.{Unbroken, broken_off, Cut, LinesOf, TheLines, last_line}
 use Rattle.lines.proofs.OneCut.{one_lines}
 
 -- The bytes that are kept; none are before the first byte.
@@ -17,20 +18,12 @@ kept_more : (bytes rest : List ℕ) (b : ℕ) → kept_of (bytes ++ (b ∷ [])) 
 kept_more [] rest b = refl
 kept_more (c ∷ bytes) rest b = refl
 
-unbroken_more : (rest : List ℕ) (b : ℕ) → (b ≡ 10 → ⊥) → Unbroken rest → Unbroken (rest ++ (b ∷ []))
-unbroken_more [] b n u = (n, tt)
-unbroken_more (c ∷ rest) b n u = (u.0, unbroken_more rest b n u.1)
-
-all_unbroken_more : (lines : List (List ℕ)) (line : List ℕ) → AllUnbroken lines → Unbroken line → AllUnbroken (lines ++ (line ∷ []))
-all_unbroken_more [] line us u = (u, tt)
-all_unbroken_more (l ∷ lines) line us u = (us.0, all_unbroken_more lines line us.1 u)
-
 -- A byte that is not byte 10 goes to the rest.
 cut_byte : (bytes : List ℕ) (ended : List (List ℕ)) (rest : List ℕ) (b : ℕ) → (b ≡ 10 → ⊥) → Cut bytes ended rest → Cut (bytes ++ (b ∷ [])) ended (rest ++ (b ∷ []))
 cut_byte bytes ended rest b n C = record {
   whole = ap (λ x. x ++ (b ∷ [])) C.whole ∙ append_assoc (flat_map broken_off ended) rest (b ∷ []);
   unbroken = C.unbroken;
-  unended = unbroken_more rest b n C.unended;
+  unended = All-push (λ x. x ≢ 10) rest b C.unended n;
 }
 
 -- Byte 10 makes the rest a line.
@@ -39,8 +32,8 @@ cut_line bytes ended rest C = record {
   whole =
       ap (λ x. x ++ (10 ∷ [])) C.whole ∙ append_assoc (flat_map broken_off ended) rest (10 ∷ [])
       ∙ flat_map_more broken_off [] ended rest ∙ sym (append-nil (flat_map broken_off (ended ++ (rest ∷ []))));
-  unbroken = all_unbroken_more ended rest C.unbroken C.unended;
-  unended = tt;
+  unbroken = All-push Unbroken ended rest C.unbroken C.unended;
+  unended = All-nil (λ x. x ≢ 10);
 }
 
 -- Of a rest that grows, the first 65 bytes follow from the first 65 before.
@@ -149,7 +142,7 @@ module _ {S : Type 0} (answers : S → List ℕ → S → List ℕ → Type 0) (
   fed_none f s none = record {
     lines = [];
     rest = [];
-    cut = record { whole = refl; unbroken = tt; unended = tt };
+    cut = record { whole = refl; unbroken = All-nil Unbroken; unended = All-nil (λ x. x ≢ 10) };
     dialogue = (refl, refl);
     kept = none;
   }

@@ -1,15 +1,10 @@
 -- Bytes as lines.
-use Rattle.std.specs.Prelude.{◌≡◌, ℕ, List, [], ◌∷◌, ◌++◌, ◌≢◌}
+use Rattle.std.specs.Prelude.{◌≡◌, ℕ, List, [], ◌∷◌, ◌++◌, ◌≢◌, All}
 use Rattle.std.specs.List.{flat_map}
 
 -- No byte is byte 10.
 abbrev pub Unbroken : List ℕ → Type 0
-Unbroken [] = Unit {0}
-Unbroken (b ∷ bs) = (b ≢ 10) × Unbroken bs
-
-abbrev pub AllUnbroken : List (List ℕ) → Type 0
-AllUnbroken [] = Unit {0}
-AllUnbroken (l ∷ ls) = Unbroken l × AllUnbroken ls
+Unbroken bytes = All (λ b. b ≢ 10) bytes
 
 -- A line with the byte that ends it.
 abbrev pub broken_off : List ℕ → List ℕ
@@ -18,7 +13,7 @@ broken_off line = line ++ (10 ∷ [])
 -- The bytes are these lines, each ended by a byte 10, and then a rest in which there is none.
 pub record Cut (bytes : List ℕ) (ended : List (List ℕ)) (rest : List ℕ) : Type 0 where
   pub whole : bytes ≡ flat_map broken_off ended ++ rest
-  pub unbroken : AllUnbroken ended
+  pub unbroken : All Unbroken ended
   pub unended : Unbroken rest
 
 -- What stands after the last byte 10 is a line, unless it is empty. An input with no byte counts as one empty line.

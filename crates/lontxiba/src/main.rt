@@ -15,13 +15,16 @@ const MAP_BYTES: u64 = 12_293;
 // How many bytes of input are taken at a time.
 const PIECE_BYTES: usize = 65_536;
 
-// The bytes of the map, as far as they matter. A file that is missing or cannot be read counts as empty.
+// Adds the bytes of the map's file, as far as they matter.
+fn read_file(rt: &HostRuntime, bytes: &mut Vec<u8>) -> io::Result<usize> {
+    fs::open(rt, "net.map")?.take(MAP_BYTES).read_to_end(bytes)
+}
+
+// The bytes of the map. A file that is missing or cannot be read counts as empty.
 fn read_map(rt: &HostRuntime) -> io::Result<Vec<u8>> {
     let mut bytes = Vec::with_capacity(rt.alloc(), 16_384)?;
-    if let Ok(file) = fs::open(rt, "net.map") {
-        if file.take(MAP_BYTES).read_to_end(&mut bytes).is_err() {
-            bytes.clear();
-        }
+    if read_file(rt, &mut bytes).is_err() {
+        bytes.clear();
     }
     Ok(bytes)
 }
@@ -41,6 +44,7 @@ fn converse(rt: &HostRuntime, map: &[u8], out: &mut String) -> io::Result<()> {
     let mut feed = Feed::new();
     let mut input = rt.stdin();
     let mut piece = vec![in rt.alloc(); 0u8; PIECE_BYTES]?;
+    // Stays a loop over numbers: the input ends it, and a bound shows that it ends.
     for _ in 0..u64::MAX {
         let count = input.read(&mut piece)?;
         if count == 0 {
