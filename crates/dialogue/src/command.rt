@@ -4,7 +4,6 @@ ghost use Rattle.dialogue.specs.declared.command.Outcome.TheVariants.{Done, Coun
 ghost use Rattle.dialogue.specs.Outcomes.{mapped, pair_traced};
 ghost use Rattle.dialogue.specs.Commands.{Carried};
 ghost use Rattle.planner.specs.Planners.{state, network_of};
-ghost use Rattle.histories.specs.State.{Right};
 
 use console::command::Command;
 use definitions::Failure;
@@ -66,7 +65,7 @@ pub fn carry_out<N: Network, M: Measure>(
     command: Command,
     buffer: &mut [u16],
 ) -> Result<Outcome, PlannerFault>
-    ensures answer { Right M.Measure.scale (state N.Network.meaning planner.old) → Carried M.Measure.scale (state N.Network.meaning planner.old) command result (state N.Network.meaning planner.new) buffer.old buffer.new }
+    ensures answer { Carried M.Measure.scale (state N.Network.meaning planner.old) command result (state N.Network.meaning planner.new) buffer.old buffer.new }
     ensures keeps { network_of planner.new ≡ network_of planner.old }
 {
     match command {

@@ -5,8 +5,8 @@ ghost use Rattle.lines.specs.Dialogues.{Added, Dialogue as Exchange};
 ghost use Rattle.lines.specs.Lines.{TheLines};
 ghost use Rattle.dialogue.specs.declared.session.Session.{Session};
 ghost use Rattle.dialogue.specs.declared.session.Session.TheVariants.{Opening};
-ghost use Rattle.dialogue.specs.Sessions.{is_over, First, Answered, Answers};
-ghost use Rattle.dialogue.specs.Shorts.{answers_short};
+ghost use Rattle.dialogue.specs.Sessions.{is_over, First, Answered};
+ghost use Rattle.dialogue.specs.Shorts.{answered_short};
 
 use crate::dialogue::Dialogue;
 use crate::fault::{Cause, ConsoleFault};
@@ -82,7 +82,7 @@ impl<N: Network + Drop> Session<N> {
 
     // What one line makes of the session.
     fn advance(self, line: &[u8], out: &mut String) -> Result<Session<N>, NoMemory>
-        ensures { IfOk result (λ t. Added (string_bytes out.old) (string_bytes out.new) (Answers N.Network.meaning self line.now t)) }
+        ensures { IfOk result (λ t. Added (string_bytes out.old) (string_bytes out.new) (Answered N.Network.meaning self line.now t)) }
     {
         match self {
             Session::Opening(heap, network) => open(heap, network, line, out),
@@ -101,11 +101,11 @@ impl<N: Network + Drop> Session<N> {
 
 // A session answers lines, until it has ended.
 impl<N: Network + Drop> Responder for Session<N> {
-    ghost answers = { Answers N.Network.meaning };
+    ghost answers = { Answered N.Network.meaning };
 
     ghost ended = { is_over };
 
-    ghost short = { answers_short N.Network.meaning };
+    ghost short = { answered_short N.Network.meaning };
 
     fn has_ended(&self) -> bool {
         match self {

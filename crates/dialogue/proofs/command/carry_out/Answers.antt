@@ -1,6 +1,7 @@
 use Rattle.std.proofs.Common.{◌≡◌, refl}
 use Rattle.console.specs.declared.command.Command.TheVariants.{Plan, Guarantee, Route, Backup, Withdraw, Restore, TraceLink, TraceGroup}
 use Rattle.planner.specs.Planners.{state}
+use Rattle.planner.proofs.Sound.{right}
 use Rattle.dialogue.proofs.Carrying.{plan_carried, withdraw_carried, restore_carried, guarantee_carried, route_carried, backup_carried, trace_link_carried, trace_group_carried}
 use Rattle.dialogue.proofs.command.carry_out.Goals as goal
 
@@ -8,7 +9,7 @@ pub returns-in-Plan : goal.returns-in-Plan
 returns-in-Plan g c =
     let is : c.args.command ≡ Plan c.from.result = cc in
     record {
-      answer = λ R. plan_carried g.M.Measure.scale (state g.N.Network.meaning c.args.planner.now) c.args.command c.count.result _ _ _ (c.plan.ensures.right R) c.from.result is c.plan.result c.count.ensures c.plan.ensures.answer c.plan.ensures.follows;
+      answer = plan_carried g.M.Measure.scale (state g.N.Network.meaning c.args.planner.now) c.args.command c.count.result _ _ _ c.from.result is c.plan.result c.count.ensures c.plan.ensures.answer c.plan.ensures.follows;
       keeps = c.plan.ensures.keeps;
     }
 
@@ -16,7 +17,7 @@ pub returns-in-Guarantee : goal.returns-in-Guarantee
 returns-in-Guarantee g c =
     let is : c.args.command ≡ Guarantee c.from-in-Guarantee.result = cc in
     record {
-      answer = λ R. guarantee_carried g.M.Measure.scale (state g.N.Network.meaning c.args.planner.now) c.args.command c.value.result _ _ g.met.M.Measure.lawful (g.N.Network.limits c.args.planner.now.network) R c.from-in-Guarantee.result is c.guarantee.result c.value.ensures (c.guarantee.ensures.answer R) c.guarantee.ensures.follows c.guarantee.ensures.history;
+      answer = guarantee_carried g.M.Measure.scale (state g.N.Network.meaning c.args.planner.now) c.args.command c.value.result _ _ g.met.M.Measure.lawful (g.N.Network.limits c.args.planner.now.network) (right c.args.planner.now g.met.M.Measure.lawful (g.N.Network.limits c.args.planner.now.network)) c.from-in-Guarantee.result is c.guarantee.result c.value.ensures c.guarantee.ensures.answer c.guarantee.ensures.follows c.guarantee.ensures.history;
       keeps = refl;
     }
 
@@ -24,7 +25,7 @@ pub returns-in-Route : goal.returns-in-Route
 returns-in-Route g c =
     let is : c.args.command ≡ Route c.from-in-Route.result = cc in
     record {
-      answer = λ R. route_carried g.M.Measure.scale (state g.N.Network.meaning c.args.planner.now) c.args.command c.places.result _ _ g.met.M.Measure.lawful (g.N.Network.limits c.args.planner.now.network) R c.from-in-Route.result is c.route.result c.places.ensures (c.route.ensures.answer R) c.route.ensures.follows c.route.ensures.history;
+      answer = route_carried g.M.Measure.scale (state g.N.Network.meaning c.args.planner.now) c.args.command c.places.result _ _ g.met.M.Measure.lawful (g.N.Network.limits c.args.planner.now.network) (right c.args.planner.now g.met.M.Measure.lawful (g.N.Network.limits c.args.planner.now.network)) c.from-in-Route.result is c.route.result c.places.ensures c.route.ensures.answer c.route.ensures.follows c.route.ensures.history;
       keeps = refl;
     }
 
@@ -32,7 +33,7 @@ pub returns-in-Backup : goal.returns-in-Backup
 returns-in-Backup g c =
     let is : c.args.command ≡ Backup c.from-in-Backup.result = cc in
     record {
-      answer = λ R. backup_carried g.M.Measure.scale (state g.N.Network.meaning c.args.planner.now) c.args.command c.places-in-Backup.result _ _ g.met.M.Measure.lawful (g.N.Network.limits c.args.planner.now.network) R c.from-in-Backup.result is c.backup.result c.places-in-Backup.ensures (c.backup.ensures.answer R) c.backup.ensures.follows;
+      answer = backup_carried g.M.Measure.scale (state g.N.Network.meaning c.args.planner.now) c.args.command c.places-in-Backup.result _ _ g.met.M.Measure.lawful (g.N.Network.limits c.args.planner.now.network) (right c.args.planner.now g.met.M.Measure.lawful (g.N.Network.limits c.args.planner.now.network)) c.from-in-Backup.result is c.backup.result c.places-in-Backup.ensures c.backup.ensures.answer c.backup.ensures.follows;
       keeps = refl;
     }
 
@@ -40,7 +41,7 @@ pub returns-in-Withdraw : goal.returns-in-Withdraw
 returns-in-Withdraw g c =
     let is : c.args.command ≡ Withdraw c.from-in-Withdraw.result = cc in
     record {
-      answer = λ R. withdraw_carried g.M.Measure.scale (state g.N.Network.meaning c.args.planner.now) c.args.command c.done.result _ _ _ (c.withdraw.ensures.right R) c.from-in-Withdraw.result is c.withdraw.result c.done.ensures c.withdraw.ensures.answer c.withdraw.ensures.follows;
+      answer = withdraw_carried g.M.Measure.scale (state g.N.Network.meaning c.args.planner.now) c.args.command c.done.result _ _ _ c.from-in-Withdraw.result is c.withdraw.result c.done.ensures c.withdraw.ensures.answer c.withdraw.ensures.follows;
       keeps = c.withdraw.ensures.keeps;
     }
 
@@ -48,7 +49,7 @@ pub returns-in-Restore : goal.returns-in-Restore
 returns-in-Restore g c =
     let is : c.args.command ≡ Restore c.from-in-Restore.result = cc in
     record {
-      answer = λ R. restore_carried g.M.Measure.scale (state g.N.Network.meaning c.args.planner.now) c.args.command c.done-in-Restore.result _ _ _ (c.restore.ensures.right R) c.from-in-Restore.result is c.restore.result c.done-in-Restore.ensures c.restore.ensures.answer c.restore.ensures.follows;
+      answer = restore_carried g.M.Measure.scale (state g.N.Network.meaning c.args.planner.now) c.args.command c.done-in-Restore.result _ _ _ c.from-in-Restore.result is c.restore.result c.done-in-Restore.ensures c.restore.ensures.answer c.restore.ensures.follows;
       keeps = c.restore.ensures.keeps;
     }
 
@@ -56,7 +57,7 @@ pub returns-in-TraceLink : goal.returns-in-TraceLink
 returns-in-TraceLink g c =
     let is : c.args.command ≡ TraceLink c.from-in-TraceLink.result c.in-TraceLink.k = cc in
     record {
-      answer = λ R. trace_link_carried g.M.Measure.scale (state g.N.Network.meaning c.args.planner.now) c.args.command c.traced.result _ _ g.met.M.Measure.lawful (g.N.Network.limits c.args.planner.now.network) R c.from-in-TraceLink.result c.in-TraceLink.k c.trace.result c.traced.ensures is (c.trace.ensures.answer R) c.trace.ensures.follows c.trace.ensures.history;
+      answer = trace_link_carried g.M.Measure.scale (state g.N.Network.meaning c.args.planner.now) c.args.command c.traced.result _ _ g.met.M.Measure.lawful (g.N.Network.limits c.args.planner.now.network) (right c.args.planner.now g.met.M.Measure.lawful (g.N.Network.limits c.args.planner.now.network)) c.from-in-TraceLink.result c.in-TraceLink.k c.trace.result c.traced.ensures is c.trace.ensures.answer c.trace.ensures.follows c.trace.ensures.history;
       keeps = refl;
     }
 
@@ -64,6 +65,6 @@ pub returns-in-TraceGroup : goal.returns-in-TraceGroup
 returns-in-TraceGroup g c =
     let is : c.args.command ≡ TraceGroup c.from-in-TraceGroup.result c.in-TraceGroup.b = cc in
     record {
-      answer = λ R. trace_group_carried g.M.Measure.scale (state g.N.Network.meaning c.args.planner.now) c.args.command c.traced-in-TraceGroup.result _ _ g.met.M.Measure.lawful (g.N.Network.limits c.args.planner.now.network) R c.from-in-TraceGroup.result c.in-TraceGroup.b c.trace-in-TraceGroup.result c.traced-in-TraceGroup.ensures is (c.trace-in-TraceGroup.ensures.answer R) c.trace-in-TraceGroup.ensures.follows c.trace-in-TraceGroup.ensures.history;
+      answer = trace_group_carried g.M.Measure.scale (state g.N.Network.meaning c.args.planner.now) c.args.command c.traced-in-TraceGroup.result _ _ g.met.M.Measure.lawful (g.N.Network.limits c.args.planner.now.network) (right c.args.planner.now g.met.M.Measure.lawful (g.N.Network.limits c.args.planner.now.network)) c.from-in-TraceGroup.result c.in-TraceGroup.b c.trace-in-TraceGroup.result c.traced-in-TraceGroup.ensures is c.trace-in-TraceGroup.ensures.answer c.trace-in-TraceGroup.ensures.follows c.trace-in-TraceGroup.ensures.history;
       keeps = refl;
     }

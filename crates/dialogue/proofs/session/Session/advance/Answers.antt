@@ -1,19 +1,21 @@
+use Rattle.std.proofs.Common.{sym, refl, subst}
 use Rattle.std.proofs.lemmas.Result.{IfOk-weaker}
-use Rattle.dialogue.proofs.Sessions.{opening_answers, delay_answers, width_answers}
+use Rattle.dialogue.specs.declared.session.Session.TheVariants.{ByDelay, ByWidth}
+use Rattle.dialogue.specs.Sessions.{Answered}
 use Rattle.dialogue.proofs.session.Session.advance.Goals as goal
 
 pub returns-in-Opening : goal.returns-in-Opening
 returns-in-Opening g c =
     IfOk-weaker c.open.result _ _
-    (λ t a. (a.0, a.1, opening_answers g.N.Network.meaning c.args.self c.args.line.now a.0 c.in-Opening.heap c.in-Opening.network t c.in-Opening.is a.2))
+    (λ t a. (a.0, a.1, subst (λ s. Answered g.N.Network.meaning s c.args.line.now t a.0) (sym c.in-Opening.is) a.2))
     c.open.ensures
 
 pub returns-in_ok-answer-in-ByDelay : goal.returns-in_ok-answer-in-ByDelay
 returns-in_ok-answer-in-ByDelay g c =
     let a = c.in_ok-answer-in-ByDelay.ensures in
-    (a.0, a.1, delay_answers g.N.Network.meaning c.args.self c.args.line.now a.0 c.in-ByDelay.dialogue c.answer.new.self c.in-ByDelay.is a.2)
+    (a.0, a.1, subst (λ s. Answered g.N.Network.meaning s c.args.line.now (ByDelay c.answer.new.self) a.0) (sym c.in-ByDelay.is) (c.answer.new.self, refl, a.2))
 
 pub returns-in_ok-answer-in-ByWidth : goal.returns-in_ok-answer-in-ByWidth
 returns-in_ok-answer-in-ByWidth g c =
     let a = c.in_ok-answer-in-ByWidth.ensures in
-    (a.0, a.1, width_answers g.N.Network.meaning c.args.self c.args.line.now a.0 c.in-ByWidth.dialogue c.answer-in-ByWidth.new.self c.in-ByWidth.is a.2)
+    (a.0, a.1, subst (λ s. Answered g.N.Network.meaning s c.args.line.now (ByWidth c.answer-in-ByWidth.new.self) a.0) (sym c.in-ByWidth.is) (c.answer-in-ByWidth.new.self, refl, a.2))
