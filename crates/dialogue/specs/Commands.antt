@@ -11,7 +11,7 @@ use Rattle.histories.specs.Faults.{planner_code}
 use Rattle.histories.specs.Answers.{WithdrawAnswer, RestoreAnswer, PlanAnswer, GuaranteeAnswer, RouteAnswer, BackupAnswer, TraceAnswer}
 use Rattle.histories.specs.Histories.{Follows}
 use Rattle.histories.specs.Promise.{GuaranteeHistory, RouteHistory, TraceHistory}
-use Rattle.histories.specs.State.{State, Right}
+use Rattle.histories.specs.State.{State}
 use Rattle.console.specs.declared.print.Answer.TheVariants.{Done, Count, Value, Places}
 use Rattle.dialogue.specs.Outcomes.{Outcome, mapped, pair_traced}
 
@@ -41,8 +41,7 @@ Made m s (TraceGroup u b) r s' buffer buffer' = (s' ≡ s) × TraceMade m s u (O
 abbrev pub NotFull : {A : Type 0} → Result A PlannerFault → Type 0
 NotFull r = (f : PlannerFault) → r ≡ Err f → (planner_code f).number ≢ 16
 
--- The call was made, what the planner then holds is right, and a buffer of 512 entries holds whatever is written.
+-- The call was made, and a buffer of 512 entries holds whatever is written.
 pub record Carried (m : Scale) (s : State) (c : Command) (r : Result Outcome PlannerFault) (s' : State) (buffer buffer' : List ℕ) : Type 0 where
   pub made : Made m s c r s' buffer buffer'
-  pub right : Right m s'
   pub fits : 512 ≤ length buffer → NotFull r

@@ -9,7 +9,7 @@ use Rattle.console.specs.FirstLine.{measure_named, opening_line}
 use Rattle.definitions.specs.Measures.{Scale, delay, width}
 use Rattle.definitions.specs.Networks.{Net}
 use Rattle.histories.specs.Histories.{After}
-use Rattle.histories.specs.State.{Opened, Right}
+use Rattle.histories.specs.State.{Opened}
 use Rattle.networks.specs.declared.network.Network.{Ghosts as NetworkGhosts}
 use Rattle.measures.specs.declared.Measure.{Ghosts as MeasureGhosts}
 use Rattle.planner.specs.Planners.{state, network_of}
@@ -51,14 +51,3 @@ module _ {N : Type 0} {gn : NetworkGhosts N} (meaning : N → Net) where
   Answered (ByDelay d) line t said = (d' : _) × (t ≡ ByDelay d') × Later delay d line d' said
   Answered (ByWidth d) line t said = (d' : _) × (t ≡ ByWidth d') × Later width d line d' said
   Answered Ended line t said = (t ≡ Ended) × (said ≡ [])
-
-  -- What the planner of a session holds is right.
-  abbrev pub Sound : Session N gn → Type 0
-  Sound (Opening heap x) = Unit {0}
-  Sound (ByDelay d) = Right delay (state meaning d.planner)
-  Sound (ByWidth d) = Right width (state meaning d.planner)
-  Sound Ended = Unit {0}
-
-  -- A sound session answers the line, and stays sound.
-  abbrev pub Answers : Session N gn → List ℕ → Session N gn → List ℕ → Type 0
-  Answers s line t said = Sound s → Answered s line t said × Sound t

@@ -12,7 +12,7 @@ use Rattle.dialogue.specs.declared.dialogue.Dialogue.{Dialogue}
 use Rattle.dialogue.specs.declared.session.Session.{Session}
 use Rattle.dialogue.specs.declared.session.Session.TheVariants.{Opening, ByDelay, ByWidth, Ended}
 use Rattle.dialogue.specs.Dialogues.{Tried}
-use Rattle.dialogue.specs.Sessions.{First, Later, Answers}
+use Rattle.dialogue.specs.Sessions.{First, Later, Answered}
 
 measure_short : (line : List ℕ) → measure_named (take 65 line) ≡ measure_named line
 measure_short [] = refl
@@ -36,8 +36,8 @@ module _ {N : Type 0} {gn : NetworkGhosts N} (meaning : N → Net) where
         };
       }
 
-  pub answers_short : (s t : Session N gn) (line said : List ℕ) → Answers meaning s (take 65 line) t said → Answers meaning s line t said
-  answers_short (Opening heap x) t line said h = λ sound. let (a, z) = h sound in (subst (λ r. First meaning r x t said) (measure_short line) a, z)
-  answers_short (ByDelay d) t line said h = λ sound. let ((d', e, L), z) = h sound in ((d', e, later_short _ d d' line said L), z)
-  answers_short (ByWidth d) t line said h = λ sound. let ((d', e, L), z) = h sound in ((d', e, later_short _ d d' line said L), z)
-  answers_short Ended t line said h = h
+  pub answered_short : (s t : Session N gn) (line said : List ℕ) → Answered meaning s (take 65 line) t said → Answered meaning s line t said
+  answered_short (Opening heap x) t line said h = subst (λ r. First meaning r x t said) (measure_short line) h
+  answered_short (ByDelay d) t line said (d', e, L) = (d', e, later_short _ d d' line said L)
+  answered_short (ByWidth d) t line said (d', e, L) = (d', e, later_short _ d d' line said L)
+  answered_short Ended t line said h = h

@@ -3,7 +3,6 @@ ghost use Rattle.std.specs.Prelude.{◌≡◌, ℕ};
 ghost use Rattle.dialogue.specs.Outcomes.{pair_traced};
 ghost use Rattle.dialogue.specs.Commands.{Carried};
 ghost use Rattle.planner.specs.Planners.{state, network_of};
-ghost use Rattle.histories.specs.State.{Right};
 
 use console::command::Command;
 use console::print::Answer;
@@ -30,7 +29,7 @@ pub fn carry_out<N: Network, M: Measure>(
     command: Command,
     buffer: &mut [u16],
 ) -> Result<Outcome, PlannerFault>
-    ensures answer { Right M.Measure.scale (state N.Network.meaning planner.old) → Carried M.Measure.scale (state N.Network.meaning planner.old) command result (state N.Network.meaning planner.new) buffer.old buffer.new }
+    ensures answer { Carried M.Measure.scale (state N.Network.meaning planner.old) command result (state N.Network.meaning planner.new) buffer.old buffer.new }
     ensures keeps { network_of planner.new ≡ network_of planner.old }
 {
     match command {

@@ -2,7 +2,6 @@
 ghost use Rattle.std.specs.Prelude.{◌≡◌, ◌++◌, IfOk, string_bytes, OnOk};
 ghost use Rattle.console.specs.Answers.{answered};
 ghost use Rattle.console.specs.Grammar.{reading};
-ghost use Rattle.histories.specs.State.{Right};
 ghost use Rattle.lines.specs.Dialogues.{Added};
 ghost use Rattle.planner.specs.Planners.{state, network_of};
 ghost use Rattle.dialogue.specs.Dialogues.{Tried, reply};
@@ -39,7 +38,7 @@ fn try_line<N: Network, M: Measure>(
     line: &[u8],
     buffer: &mut [u16],
 ) -> Result<(Command, Outcome), Cause>
-    ensures answer { Right M.Measure.scale (state N.Network.meaning planner.old) → Tried M.Measure.scale (state N.Network.meaning planner.old) (reading line.now) result (state N.Network.meaning planner.new) buffer.old buffer.new }
+    ensures answer { Tried M.Measure.scale (state N.Network.meaning planner.old) (reading line.now) result (state N.Network.meaning planner.new) buffer.old buffer.new }
     ensures keeps { network_of planner.new ≡ network_of planner.old }
 {
     let command = parse(line)?;
@@ -91,7 +90,7 @@ impl<N: Network, M: Measure> Dialogue<N, M> {
 
     // Answers one line more.
     pub fn answer(&mut self, line: &[u8], out: &mut String) -> Result<(), AllocError>
-        ensures { OnOk result (Added (string_bytes out.old) (string_bytes out.new) (λ said. Right M.Measure.scale (state N.Network.meaning self.old.planner) → Later N.Network.meaning M.Measure.scale self.old line.now self.new said)) }
+        ensures { OnOk result (Added (string_bytes out.old) (string_bytes out.new) (Later N.Network.meaning M.Measure.scale self.old line.now self.new)) }
     {
         self.lines = self.lines.saturating_add(1);
         let mut buffer = [0; 512];

@@ -2,13 +2,11 @@
 ghost use Rattle.std.specs.Prelude.{◌≡◌, ℕ, List, IfOk, Ok, string_bytes, OnOk};
 ghost use Rattle.console.specs.FirstLine.{measure_named};
 ghost use Rattle.lines.specs.Dialogues.{Added, Dialogue as Exchange};
-ghost use Rattle.histories.specs.State.{Right};
 ghost use Rattle.lines.specs.Lines.{TheLines};
-ghost use Rattle.planner.specs.Planners.{state};
 ghost use Rattle.dialogue.specs.declared.session.Session.{Session};
 ghost use Rattle.dialogue.specs.declared.session.Session.TheVariants.{Opening};
-ghost use Rattle.dialogue.specs.Sessions.{is_over, First, Later, Answered, Answers};
-ghost use Rattle.dialogue.specs.Shorts.{answers_short};
+ghost use Rattle.dialogue.specs.Sessions.{is_over, First, Later, Answered};
+ghost use Rattle.dialogue.specs.Shorts.{answered_short};
 
 use crate::dialogue::Dialogue;
 use crate::fault::{Cause, ConsoleFault, print_fault};
@@ -71,7 +69,7 @@ fn answered<N: Network + Drop, M: Measure>(
     line: &[u8],
     out: &mut String,
 ) -> Result<Dialogue<N, M>, AllocError>
-    ensures { IfOk result (λ d. Added (string_bytes out.old) (string_bytes out.new) (λ said. Right M.Measure.scale (state N.Network.meaning dialogue.planner) → Later N.Network.meaning M.Measure.scale dialogue line.now d said)) }
+    ensures { IfOk result (λ d. Added (string_bytes out.old) (string_bytes out.new) (Later N.Network.meaning M.Measure.scale dialogue line.now d)) }
 {
     dialogue.answer(line, out)?;
     Ok(dialogue)
@@ -87,7 +85,7 @@ impl<N: Network + Drop> Session<N> {
 
     // What one line makes of the session.
     fn advance(self, line: &[u8], out: &mut String) -> Result<Session<N>, AllocError>
-        ensures { IfOk result (λ t. Added (string_bytes out.old) (string_bytes out.new) (Answers N.Network.meaning self line.now t)) }
+        ensures { IfOk result (λ t. Added (string_bytes out.old) (string_bytes out.new) (Answered N.Network.meaning self line.now t)) }
     {
         match self {
             Session::Opening(heap, network) => open(heap, network, line, out),
@@ -100,11 +98,11 @@ impl<N: Network + Drop> Session<N> {
 
 // A session answers lines, until it has ended.
 impl<N: Network + Drop> Responder for Session<N> {
-    ghost answers = { Answers N.Network.meaning };
+    ghost answers = { Answered N.Network.meaning };
 
     ghost ended = { is_over };
 
-    ghost short = { answers_short N.Network.meaning };
+    ghost short = { answered_short N.Network.meaning };
 
     fn has_ended(&self) -> bool {
         matches!(self, Session::Ended)

@@ -3,6 +3,7 @@ use Rattle.console.specs.declared.command.Command.TheVariants.{Plan, Guarantee, 
 use Rattle.planner.specs.Planners.{state}
 use Rattle.console.specs.declared.print.Answer.TheVariants.{Done, Count, Value, Places}
 use Rattle.dialogue.specs.Outcomes.{mapped, pair_traced}
+use Rattle.planner.proofs.Sound.{right}
 use Rattle.dialogue.proofs.Carrying.{plan_carried, withdraw_carried, restore_carried, guarantee_carried, route_carried, backup_carried, trace_link_carried, trace_group_carried}
 use Rattle.dialogue.proofs.command.carry_out.Goals as goal
 
@@ -11,7 +12,7 @@ returns-in-Plan g c =
     let is : c.args.command ≡ Plan c.from.result = cc in
     let said : c.map.result ≡ mapped Count c.plan.result = search rules in
     record {
-      answer = λ R. plan_carried g.M.Measure.scale (state g.N.Network.meaning c.args.planner.now) c.args.command c.map.result _ _ _ (c.plan.ensures.right R) c.from.result is c.plan.result said c.plan.ensures.answer c.plan.ensures.follows;
+      answer = plan_carried g.M.Measure.scale (state g.N.Network.meaning c.args.planner.now) c.args.command c.map.result _ _ _ c.from.result is c.plan.result said c.plan.ensures.answer c.plan.ensures.follows;
       keeps = c.plan.ensures.keeps;
     }
 
@@ -20,7 +21,7 @@ returns-in-Guarantee g c =
     let is : c.args.command ≡ Guarantee c.from-in-Guarantee.result = cc in
     let said : c.map-in-Guarantee.result ≡ mapped Value c.guarantee.result = search rules in
     record {
-      answer = λ R. guarantee_carried g.M.Measure.scale (state g.N.Network.meaning c.args.planner.now) c.args.command c.map-in-Guarantee.result _ _ g.met.M.Measure.lawful (g.N.Network.limits c.args.planner.now.network) R c.from-in-Guarantee.result is c.guarantee.result said (c.guarantee.ensures.answer R) c.guarantee.ensures.follows c.guarantee.ensures.history;
+      answer = guarantee_carried g.M.Measure.scale (state g.N.Network.meaning c.args.planner.now) c.args.command c.map-in-Guarantee.result _ _ g.met.M.Measure.lawful (g.N.Network.limits c.args.planner.now.network) (right c.args.planner.now g.met.M.Measure.lawful (g.N.Network.limits c.args.planner.now.network)) c.from-in-Guarantee.result is c.guarantee.result said c.guarantee.ensures.answer c.guarantee.ensures.follows c.guarantee.ensures.history;
       keeps = refl;
     }
 
@@ -29,7 +30,7 @@ returns-in-Route g c =
     let is : c.args.command ≡ Route c.from-in-Route.result = cc in
     let said : c.map-in-Route.result ≡ mapped Places c.route.result = search rules in
     record {
-      answer = λ R. route_carried g.M.Measure.scale (state g.N.Network.meaning c.args.planner.now) c.args.command c.map-in-Route.result _ _ g.met.M.Measure.lawful (g.N.Network.limits c.args.planner.now.network) R c.from-in-Route.result is c.route.result said (c.route.ensures.answer R) c.route.ensures.follows c.route.ensures.history;
+      answer = route_carried g.M.Measure.scale (state g.N.Network.meaning c.args.planner.now) c.args.command c.map-in-Route.result _ _ g.met.M.Measure.lawful (g.N.Network.limits c.args.planner.now.network) (right c.args.planner.now g.met.M.Measure.lawful (g.N.Network.limits c.args.planner.now.network)) c.from-in-Route.result is c.route.result said c.route.ensures.answer c.route.ensures.follows c.route.ensures.history;
       keeps = refl;
     }
 
@@ -38,7 +39,7 @@ returns-in-Backup g c =
     let is : c.args.command ≡ Backup c.from-in-Backup.result = cc in
     let said : c.map-in-Backup.result ≡ mapped Places c.backup.result = search rules in
     record {
-      answer = λ R. backup_carried g.M.Measure.scale (state g.N.Network.meaning c.args.planner.now) c.args.command c.map-in-Backup.result _ _ g.met.M.Measure.lawful (g.N.Network.limits c.args.planner.now.network) R c.from-in-Backup.result is c.backup.result said (c.backup.ensures.answer R) c.backup.ensures.follows;
+      answer = backup_carried g.M.Measure.scale (state g.N.Network.meaning c.args.planner.now) c.args.command c.map-in-Backup.result _ _ g.met.M.Measure.lawful (g.N.Network.limits c.args.planner.now.network) (right c.args.planner.now g.met.M.Measure.lawful (g.N.Network.limits c.args.planner.now.network)) c.from-in-Backup.result is c.backup.result said c.backup.ensures.answer c.backup.ensures.follows;
       keeps = refl;
     }
 
@@ -47,7 +48,7 @@ returns-in-Withdraw g c =
     let is : c.args.command ≡ Withdraw c.from-in-Withdraw.result = cc in
     let said : c.map-in-Withdraw.result ≡ mapped (λ _. Done) c.withdraw.result = search rules in
     record {
-      answer = λ R. withdraw_carried g.M.Measure.scale (state g.N.Network.meaning c.args.planner.now) c.args.command c.map-in-Withdraw.result _ _ _ (c.withdraw.ensures.right R) c.from-in-Withdraw.result is c.withdraw.result said c.withdraw.ensures.answer c.withdraw.ensures.follows;
+      answer = withdraw_carried g.M.Measure.scale (state g.N.Network.meaning c.args.planner.now) c.args.command c.map-in-Withdraw.result _ _ _ c.from-in-Withdraw.result is c.withdraw.result said c.withdraw.ensures.answer c.withdraw.ensures.follows;
       keeps = c.withdraw.ensures.keeps;
     }
 
@@ -56,7 +57,7 @@ returns-in-Restore g c =
     let is : c.args.command ≡ Restore c.from-in-Restore.result = cc in
     let said : c.map-in-Restore.result ≡ mapped (λ _. Done) c.restore.result = search rules in
     record {
-      answer = λ R. restore_carried g.M.Measure.scale (state g.N.Network.meaning c.args.planner.now) c.args.command c.map-in-Restore.result _ _ _ (c.restore.ensures.right R) c.from-in-Restore.result is c.restore.result said c.restore.ensures.answer c.restore.ensures.follows;
+      answer = restore_carried g.M.Measure.scale (state g.N.Network.meaning c.args.planner.now) c.args.command c.map-in-Restore.result _ _ _ c.from-in-Restore.result is c.restore.result said c.restore.ensures.answer c.restore.ensures.follows;
       keeps = c.restore.ensures.keeps;
     }
 
@@ -65,7 +66,7 @@ returns-in-TraceLink g c =
     let is : c.args.command ≡ TraceLink c.from-in-TraceLink.result c.in-TraceLink.k = cc in
     let said : c.map-in-TraceLink.result ≡ mapped pair_traced c.trace.result = search rules in
     record {
-      answer = λ R. trace_link_carried g.M.Measure.scale (state g.N.Network.meaning c.args.planner.now) c.args.command c.map-in-TraceLink.result _ _ g.met.M.Measure.lawful (g.N.Network.limits c.args.planner.now.network) R c.from-in-TraceLink.result c.in-TraceLink.k c.trace.result said is (c.trace.ensures.answer R) c.trace.ensures.follows c.trace.ensures.history;
+      answer = trace_link_carried g.M.Measure.scale (state g.N.Network.meaning c.args.planner.now) c.args.command c.map-in-TraceLink.result _ _ g.met.M.Measure.lawful (g.N.Network.limits c.args.planner.now.network) (right c.args.planner.now g.met.M.Measure.lawful (g.N.Network.limits c.args.planner.now.network)) c.from-in-TraceLink.result c.in-TraceLink.k c.trace.result said is c.trace.ensures.answer c.trace.ensures.follows c.trace.ensures.history;
       keeps = refl;
     }
 
@@ -74,6 +75,6 @@ returns-in-TraceGroup g c =
     let is : c.args.command ≡ TraceGroup c.from-in-TraceGroup.result c.in-TraceGroup.b = cc in
     let said : c.map-in-TraceGroup.result ≡ mapped pair_traced c.trace-in-TraceGroup.result = search rules in
     record {
-      answer = λ R. trace_group_carried g.M.Measure.scale (state g.N.Network.meaning c.args.planner.now) c.args.command c.map-in-TraceGroup.result _ _ g.met.M.Measure.lawful (g.N.Network.limits c.args.planner.now.network) R c.from-in-TraceGroup.result c.in-TraceGroup.b c.trace-in-TraceGroup.result said is (c.trace-in-TraceGroup.ensures.answer R) c.trace-in-TraceGroup.ensures.follows c.trace-in-TraceGroup.ensures.history;
+      answer = trace_group_carried g.M.Measure.scale (state g.N.Network.meaning c.args.planner.now) c.args.command c.map-in-TraceGroup.result _ _ g.met.M.Measure.lawful (g.N.Network.limits c.args.planner.now.network) (right c.args.planner.now g.met.M.Measure.lawful (g.N.Network.limits c.args.planner.now.network)) c.from-in-TraceGroup.result c.in-TraceGroup.b c.trace-in-TraceGroup.result said is c.trace-in-TraceGroup.ensures.answer c.trace-in-TraceGroup.ensures.follows c.trace-in-TraceGroup.ensures.history;
       keeps = refl;
     }

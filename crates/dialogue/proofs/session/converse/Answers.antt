@@ -1,9 +1,7 @@
 use Rattle.std.proofs.Common.{ℕ, List, subst}
 use Rattle.std.proofs.lemmas.Result.{IfOk-weaker}
 use Rattle.lines.specs.Dialogues.{Dialogue as Exchange}
-use Rattle.dialogue.specs.declared.session.Session.TheVariants.{Opening}
-use Rattle.dialogue.specs.Sessions.{is_over, Answers}
-use Rattle.dialogue.proofs.Sessions.{sound_dialogue}
+use Rattle.dialogue.specs.Sessions.{is_over, Answered}
 use Rattle.dialogue.proofs.session.converse.Goals as goal
 
 pub returns : goal.returns
@@ -11,6 +9,5 @@ returns g c =
     IfOk-weaker c.respond_all.result _ _
     (λ _ a.
     let lines : List (List ℕ) = a.2.0 in
-    let opened = subst (λ s. Exchange (Answers g.N.Network.meaning) is_over lines s c.respond_all.new.responder a.0) c.new-session.ensures a.2.2 in
-    (a.0, a.1, (lines, c.respond_all.new.responder, a.2.1, sound_dialogue g.N.Network.meaning lines (Opening c.args.heap c.args.network) _ a.0 opened tt)))
+    (a.0, a.1, (lines, c.respond_all.new.responder, a.2.1, subst (λ s. Exchange (Answered g.N.Network.meaning) is_over lines s c.respond_all.new.responder a.0) c.new-session.ensures a.2.2)))
     c.respond_all.ensures

@@ -10,6 +10,6 @@ returns g c =
     (λ _ bytes. (
       _,
       bytes,
-      λ R. later g.N.Network.meaning g.M.Measure.scale c.args.self.now _ c.args.line.now c.try_line-result.result _ _ (search rules) tried.keeps c.saturating_add-self.ensures (tried.answer R),
+      later g.N.Network.meaning g.M.Measure.scale c.args.self.now _ c.args.line.now c.try_line-result.result _ _ (search rules) tried.keeps c.saturating_add-self.ensures tried.answer,
     ))
     c.print_reply.ensures
