@@ -8,7 +8,7 @@ use Rattle.definitions.specs.Routes.{Next}
 use Rattle.definitions.specs.Plans.{worst, Backup}
 use Rattle.histories.specs.declared.fault.PlannerFault.{PlannerFault}
 use Rattle.histories.specs.declared.fault.PlannerFault.TheVariants.{NoPlan, NoNode, NoGuarantee, NoRoom}
-use Rattle.routes.specs.declared.record.NodeRecord.{NodeRecord}
+use Rattle.frontier.specs.declared.record.NodeRecord.{NodeRecord}
 use Rattle.routes.specs.Records.{Recorded, value_of}
 use Rattle.histories.specs.Questions.{Asks, Fails}
 use Rattle.histories.specs.State.{State}
