@@ -1,9 +1,9 @@
 -- A search for next links, as it offers the places one by one.
-use Rattle.std.proofs.Common.{◌≡◌, ℕ, ◌+◌, ◌<◌, ◌≤◌, Bool, true, false, eqb, List, ◌∷◌, length, Some, None, Decides, MatchBool, Option, sym, refl, ap, ◌∙◌, subst, inl, inr, arith}
+use Rattle.std.proofs.Common.{◌≡◌, ℕ, ◌+◌, ◌<◌, ◌≤◌, Result, Ok, Err, eqb, List, ◌∷◌, length, Some, None, Decides, MatchResult, Option, sym, refl, ap, ◌∙◌, subst, inl, inr, arith}
 use native.Mathlib.Decide.{ℕ_discrete}
 use Rattle.std.proofs.lemmas.Bool.{eqb-true, eq-eqb}
 use Rattle.std.specs.List.Sorted.{IsPermutation}
-use Rattle.std.specs.List.{ContainsAt as Has}
+use Rattle.std.specs.List.{Contains}
 use Rattle.std.proofs.lemmas.List.Sorted.{length_permutation}
 use Rattle.definitions.specs.declared.Link.{Link}
 use Rattle.definitions.specs.Networks.{Net, place}
@@ -23,10 +23,13 @@ use Rattle.frontier.specs.declared.entries.Settled.{Settled}
 use Rattle.frontier.specs.declared.entries.Hop.{Hop}
 use Rattle.frontier.specs.Orders.{StepsBefore}
 use Rattle.frontier.specs.Offers.{made}
-use Rattle.frontier.specs.Progress.{Due, links_into, Hopping, HopOffering}
+use Rattle.frontier.specs.declared.index.Index.{Index}
+use Rattle.frontier.specs.declared.index.LinksInto.{LinksInto}
+use Rattle.frontier.specs.Indexes.{Indexed, Stepped}
+use Rattle.frontier.specs.Progress.{Due, links_into, above, Along, Hopping, HopOffering}
 use Rattle.frontier.specs.Hops.{LabelTight, HopOffered}
-use Rattle.frontier.proofs.Offering.{due_more, due_down, NoneBetween, into, into_hit}
-use Rattle.frontier.proofs.Tallies.{tally_step, tally_hit, tally_front}
+use Rattle.frontier.proofs.Offering.{due_more, due_down, NoneBetween, holds_inside, along_start, along_step}
+use Rattle.frontier.proofs.Tallies.{into_front, into_hit}
 
 module _ (ρ : Valuation) (net : Net) (d s : ℕ → Option ℕ) (from : Settled) where
   module _ (Fit : ℕ → Type 0) (L : Lawful ρ net Fit) (t : ℕ) (nx : ℕ → Option ℕ) (S : Labels ρ net t d) (lab : s from.node ≡ Some from.steps)
@@ -55,7 +58,7 @@ module _ (ρ : Valuation) (net : Net) (d s : ℕ → Option ℕ) (from : Settled
           | inl p ↦ inr (ap (λ x. x.steps) p ∙ st, ap (λ x. x.link) p ∙ lk, tight)
           | inr p ↦ inl p
         ])
-        (λ T _. subst (Has es') (λ i. record { steps = st i; link = lk i }) (push_holds es es' e sh))
+        (λ T _. subst (Contains es') (λ i. record { steps = st i; link = lk i }) (push_holds es es' e sh))
         (λ j i due n q. let z = due q in omega arith)
 
   module _ (old : Heap Hop) where
@@ -67,7 +70,7 @@ module _ (ρ : Valuation) (net : Net) (d s : ℕ → Option ℕ) (from : Settled
         HopOffering ρ net d s from old here high → HopOffering ρ net d s from old here low
     hopping_down here low high le none O = record {
       order = O.order;
-      few = (let a = O.few in let b = tally_front (into net from.node) low high le in omega arith);
+      few = (let a = O.few in let b = into_front net from.node low high le in omega arith);
       room = O.room;
       offered = λ t nx S lab R. fewer_due ρ net t s nx (Hopping (held here)) _ _ from.steps (due_down net from.node low high none) (O.offered t nx S lab R);
     }
@@ -76,30 +79,54 @@ module _ (ρ : Valuation) (net : Net) (d s : ℕ → Option ℕ) (from : Settled
       pub hopping_none : HopOffered ρ net d s from k None → HopOffering ρ net d s from old here k
       hopping_none none = record {
         order = O.order;
-        few = (let a = O.few in let b = tally_step (into net from.node) k in omega arith);
+        few = (let a = O.few in let b = into_front net from.node k (k + 1) (omega arith) in omega arith);
         room = O.room;
         offered = λ t nx S lab R. hopped_none Fit L t nx S lab k (held here) (O.offered t nx S lab R) none;
       }
 
       pub hopping_some : length (held old) + links_into net from.node (length net.places) ≤ capacity old →
-          (e : Hop) → HopOffered ρ net d s from k (Some e) → (b : Bool) (new : Heap Hop) →
-          MatchBool b (IsPermutation (e ∷ held here) (held new)) (new ≡ here) → MatchBool b (length (held here) < capacity here) (length (held here) ≡ capacity here) →
+          (e : Hop) → HopOffered ρ net d s from k (Some e) → {A B : Type 0} (b : Result A B) (new : Heap Hop) →
+          MatchResult b (λ _. IsPermutation (e ∷ held here) (held new)) (λ _. new ≡ here) → MatchResult b (λ _. length (held here) < capacity here) (λ _. length (held here) ≡ capacity here) →
           (Heaped StepsBefore (held here) → Heaped StepsBefore (held new)) → capacity new ≡ capacity here → HopOffering ρ net d s from old new k
-      hopping_some room e off true new sh _ H keeps = record {
+      hopping_some room e off (Ok _) new sh _ H keeps = record {
         order = H O.order;
         few = (
             let a = O.few in
-            let b = tally_hit (into net from.node) k (into_hit net from.node k off.0 off.1 off.2) in
+            let b = into_hit net from.node k off.0 (holds_inside net k off.0 off.1) off.1 off.2 in
             let c = length_permutation _ _ sh in
             omega arith);
         room = keeps ∙ O.room;
         offered = λ t nx S lab R. hopped_some Fit L t nx S lab k (held here) (O.offered t nx S lab R) e (held new) off sh;
       }
-      hopping_some room e off false new sh full H keeps =
+      hopping_some room e off (Err _) new sh full H keeps =
           let a = O.few in
-          let b = tally_hit (into net from.node) k (into_hit net from.node k off.0 off.1 off.2) in
+          let b = into_hit net from.node k off.0 (holds_inside net k off.0 off.1) off.1 off.2 in
           let f = O.room in
           absurd (omega arith)
+
+    -- a turn of the search along a walk
+    pub hopping_walk : (index : Index) (w : LinksInto) → w.index.now ≡ index → w.cursor ≡ place index.first from.node →
+        Indexed net (place index.first) (place index.next) → Heaped StepsBefore (held old) →
+        Along net from.node w × HopOffering ρ net d s from old old (above w.cursor)
+    hopping_walk index w e q I H =
+        let (le, none, along) = along_start net index from.node w e q I in
+        (along, hopping_down old _ _ le none (hopping_start H))
+
+    module _ (Fit : ℕ → Type 0) (L : Lawful ρ net Fit) (k : ℕ) (v w : LinksInto) (A : Along net from.node v) (S : Stepped v (Some k) w)
+        (here : Heap Hop) (O : HopOffering ρ net d s from old here (above v.cursor)) where
+      pub hopping_walk_none : HopOffered ρ net d s from k None → Along net from.node w × HopOffering ρ net d s from old here (above w.cursor)
+      hopping_walk_none off =
+          let (at, le, none, along) = along_step net from.node k v w A S in
+          (along, hopping_down here _ k le none (hopping_none Fit L k here (subst (HopOffering ρ net d s from old here) at O) off))
+
+      pub hopping_walk_some : length (held old) + links_into net from.node (length net.places) ≤ capacity old →
+          (e : Hop) → HopOffered ρ net d s from k (Some e) → {A B : Type 0} (b : Result A B) (new : Heap Hop) →
+          MatchResult b (λ _. IsPermutation (e ∷ held here) (held new)) (λ _. new ≡ here) → MatchResult b (λ _. length (held here) < capacity here) (λ _. length (held here) ≡ capacity here) →
+          (Heaped StepsBefore (held here) → Heaped StepsBefore (held new)) → capacity new ≡ capacity here →
+          Along net from.node w × HopOffering ρ net d s from old new (above w.cursor)
+      hopping_walk_some room e off b new taken full H keeps =
+          let (at, le, none, along) = along_step net from.node k v w A S in
+          (along, hopping_down new _ k le none (hopping_some Fit L k here (subst (HopOffering ρ net d s from old here) at O) room e off b new taken full H keeps))
 
 -- The test of a tight link by the labels.
 pub meeting_test : (m : Scale) (r d : ℕ → Option ℕ) (k : ℕ) (l : Link) (b a w : ℕ) → d l.head ≡ Some b → d l.tail ≡ Some a →

@@ -1,16 +1,17 @@
 -- A search for values, as it offers the places one by one.
-use Rattle.std.proofs.Common.{◌≡◌, ℕ, ◌+◌, ◌<◌, ◌≤◌, Bool, true, false, List, ◌∷◌, length, Some, None, MatchBool, Option, sym, refl, ap, ◌∙◌, subst, inl, inr, arith}
+use Rattle.std.proofs.Common.{◌≡◌, ℕ, ◌+◌, ◌<◌, ◌≤◌, Result, Ok, Err, List, ◌∷◌, length, Some, None, MatchResult, Option, sym, refl, ap, ◌∙◌, subst, inl, inr, arith}
 use native.Mathlib.Decide.{ℕ_discrete}
 use Rattle.std.specs.List.Sorted.{IsPermutation}
-use Rattle.std.specs.List.{ContainsAt as Has}
-use Rattle.std.proofs.lemmas.Bool.{cases_lt, eq-eqb}
+use Rattle.std.specs.List.{Contains}
+use Rattle.std.proofs.lemmas.List.{get_or_past}
+use Rattle.std.proofs.lemmas.Bool.{cases_lt}
 use Rattle.definitions.specs.declared.Link.{Link}
 use Rattle.definitions.specs.Networks.{Net, Holds, Limits, place}
 use Rattle.definitions.specs.Measures.{Scale, Laws}
 use Rattle.definitions.specs.Routes.{Valuation}
 use Rattle.definitions.specs.Searches.{given, Running}
 use Rattle.definitions.proofs.Fixpoint.{Lawful, via_one}
-use Rattle.definitions.proofs.Layers.{same_link, place_past}
+use Rattle.definitions.proofs.Layers.{same_link}
 use Rattle.definitions.proofs.Settling.{fewer_due, offers, done_fits}
 use Rattle.heap.proofs.Held.{push_keeps, push_holds, push_only}
 use Rattle.frontier.specs.declared.entries.Candidate.{Candidate}
@@ -22,15 +23,18 @@ use Rattle.heap.specs.Holds.{held, capacity}
 use Rattle.std.proofs.lemmas.List.Sorted.{length_permutation}
 use Rattle.frontier.specs.Orders.{ValueBefore}
 use Rattle.frontier.specs.Offers.{Fitting, Offered}
-use Rattle.frontier.specs.Progress.{Waiting, Due, Offering, leads_to, links_into, above, Owns}
-use Rattle.frontier.specs.Indexes.{UpTo, Indexed}
-use Rattle.frontier.proofs.Tallies.{tally_step, tally_hit, tally_front}
+use Rattle.std.specs.Prelude.{option_and_then}
+use Rattle.frontier.specs.declared.index.Index.{Index}
+use Rattle.frontier.specs.declared.index.LinksInto.{LinksInto}
+use Rattle.frontier.specs.Progress.{Waiting, Due, Offering, links_into, above, Owns, Along}
+use Rattle.frontier.specs.Indexes.{UpTo, Indexed, Stepped}
+use Rattle.frontier.proofs.Tallies.{into_front, into_hit}
 
 -- a place that holds a link is one of the places
 pub holds_inside : (net : Net) (k : ℕ) (l : Link) → Holds net k l → k < length net.places
 holds_inside net k l h = elim (cases_lt k (length net.places)) [
   | inl lt ↦ lt
-  | inr le ↦ (let e = place_past net.places k le in let z : ◌≡◌ {A = ℕ} 0 1 = cc in absurd (omega arith))
+  | inr le ↦ (let e = get_or_past net.places k None le in let z : ◌≡◌ {A = ℕ} 0 1 = cc in absurd (omega arith))
 ]
 
 pub not_both_links : (o : Option Link) (l : Link) → o ≡ Some l → o ≡ None → ⊥
@@ -78,15 +82,8 @@ module _ (ρ : Valuation) (net : Net) (t : ℕ) (Fit : ℕ → Type 0) (L : Lawf
         ])
         (λ w mk' free.
         let one : e.value ≡ w = via_one ρ net t Fit L k l from.value e.value w h (done_fits ρ net t Fit L d (Waiting es) (Due from.node (k + 1)) from.value R from.node from.value lab) mk mk' in
-        subst (Has es') (λ i. record { value = one i; node = sym tl i }) (push_holds es es' e s))
+        subst (Contains es') (λ i. record { value = one i; node = sym tl i }) (push_holds es es' e s))
         (λ j i due n q. let z = due q in omega arith)
-
--- the test by which links into u are counted
-abbrev pub into : Net → ℕ → ℕ → Bool
-into net u k = leads_to u (place net.places k)
-
-pub into_hit : (net : Net) (u k : ℕ) (l : Link) → Holds net k l → l.head ≡ u → into net u k ≡ true
-into_hit net u k l h e = rw h (eq-eqb l.head u e)
 
 -- no link into u lies between two bounds
 abbrev pub NoneBetween : Net → ℕ → ℕ → ℕ → Type 0
@@ -105,7 +102,7 @@ module _ (m : Scale) (M : Laws m) (r : ℕ → Option ℕ) (net : Net) (F : Fitt
       Offering m r net d from old here high → Offering m r net d from old here low
   offering_down here low high le none O = record {
     order = O.order;
-    few = (let a = O.few in let b = tally_front (into net from.node) low high le in omega arith);
+    few = (let a = O.few in let b = into_front net from.node low high le in omega arith);
     room = O.room;
     offered = λ t lab R. fewer_due (given m r) net t Value (given_lawful m M net N t r F) d (Waiting (held here)) _ _ from.value
         (due_down net from.node low high none) (O.offered t lab R);
@@ -115,28 +112,28 @@ module _ (m : Scale) (M : Laws m) (r : ℕ → Option ℕ) (net : Net) (F : Fitt
     pub offering_none : Offered (given m r) net d from k None → Offering m r net d from old here k
     offering_none none = record {
       order = O.order;
-      few = (let a = O.few in let b = tally_step (into net from.node) k in omega arith);
+      few = (let a = O.few in let b = into_front net from.node k (k + 1) (omega arith) in omega arith);
       room = O.room;
       offered = λ t lab R. offered_none (given m r) net t Value (given_lawful m M net N t r F) d from lab k (held here) (O.offered t lab R) none;
     }
 
     pub offering_some : length (held old) + links_into net from.node (length net.places) ≤ capacity old →
-        (e : Candidate) → Offered (given m r) net d from k (Some e) → (b : Bool) (new : Heap Candidate) →
-        MatchBool b (IsPermutation (e ∷ held here) (held new)) (new ≡ here) → MatchBool b (length (held here) < capacity here) (length (held here) ≡ capacity here) →
+        (e : Candidate) → Offered (given m r) net d from k (Some e) → {A B : Type 0} (b : Result A B) (new : Heap Candidate) →
+        MatchResult b (λ _. IsPermutation (e ∷ held here) (held new)) (λ _. new ≡ here) → MatchResult b (λ _. length (held here) < capacity here) (λ _. length (held here) ≡ capacity here) →
         (Heaped (ValueBefore m) (held here) → Heaped (ValueBefore m) (held new)) → capacity new ≡ capacity here → Offering m r net d from old new k
-    offering_some room e off true new s _ H keeps = record {
+    offering_some room e off (Ok _) new s _ H keeps = record {
       order = H O.order;
       few = (
           let a = O.few in
-          let b = tally_hit (into net from.node) k (into_hit net from.node k off.0 off.1 off.2) in
+          let b = into_hit net from.node k off.0 (holds_inside net k off.0 off.1) off.1 off.2 in
           let c = length_permutation _ _ s in
           omega arith);
       room = keeps ∙ O.room;
       offered = λ t lab R. offered_some (given m r) net t Value (given_lawful m M net N t r F) d from lab k (held here) (O.offered t lab R) e (held new) off s;
     }
-    offering_some room e off false new s full H keeps =
+    offering_some room e off (Err _) new s full H keeps =
         let a = O.few in
-        let b = tally_hit (into net from.node) k (into_hit net from.node k off.0 off.1 off.2) in
+        let b = into_hit net from.node k off.0 (holds_inside net k off.0 off.1) off.1 off.2 in
         let f = O.room in
         absurd (omega arith)
 
@@ -152,14 +149,49 @@ pub next_bound : (net : Net) (first next : ℕ → Option ℕ) (I : Indexed net 
     (above o ≤ k) × NoneBetween net u (above o) k × Owns I.owner u o
 next_bound net first next I u k None own e = (omega arith, (λ j i h q lo hi. subst (UpTo j) (sym e) (I.next_covers u k j i own h q hi)), tt)
 next_bound net first next I u k (Some j) own e =
-    let (lt, own') = I.next_owned u k j own (sym e) in
+    let own' = I.next_owned u k j own (sym e) in
+    let lt = I.falls k j (sym e) in
     (omega arith, (λ j' i h q lo hi. let z : j' ≤ j = subst (UpTo j') (sym e) (I.next_covers u k j' i own h q hi) in omega arith), own')
 
--- one turn of the loop along the links into u
-pub turn_bound : (net : Net) (first next : ℕ → Option ℕ) (I : Indexed net first next) (u link k : ℕ) (cursor o : Option ℕ) →
-    cursor ≡ Some link → k ≡ link → Owns I.owner u cursor → o ≡ next k →
-    (above cursor ≡ k + 1) × (above o ≤ k) × NoneBetween net u (above o) k × Owns I.owner u o
-turn_bound net first next I u link k cursor o is e own q =
-    let own' : I.owner k ≡ Some u = ap I.owner e ∙ subst (Owns I.owner u) is own in
-    let (le, none, rest) = next_bound net first next I u k o own' q in
-    (ap above is ∙ ap (λ x. x + 1) (sym e), le, none, rest)
+-- a walk begins
+pub along_start : (net : Net) (index : Index) (u : ℕ) (s : LinksInto) → s.index.now ≡ index → s.cursor ≡ place index.first u →
+    Indexed net (place index.first) (place index.next) →
+    (above s.cursor ≤ length net.places) × NoneBetween net u (above s.cursor) (length net.places) × Along net u s
+along_start net index u s e q I =
+    let here : Indexed net (place s.index.now.first) (place s.index.now.next) = subst (λ i. Indexed net (place i.first) (place i.next)) (sym e) I in
+    let (le, none, own) = first_bound net _ _ here u s.cursor (q ∙ ap (λ i. place i.first u) (sym e)) in
+    (le, none, (here, own))
+
+-- and goes on
+pub along_step : (net : Net) (u k : ℕ) (s t : LinksInto) → Along net u s → Stepped s (Some k) t →
+    (above s.cursor ≡ k + 1) × (above t.cursor ≤ k) × NoneBetween net u (above t.cursor) k × Along net u t
+along_step net u k s t (I, own) (is, same, then) =
+    let (le, none, rest) = next_bound net _ _ I u k t.cursor (subst (Owns I.owner u) (sym is) own) (then ∙ ap (option_and_then (place s.index.now.next)) (sym is)) in
+    (ap above (sym is), le, none, subst (λ i. (J : Indexed net (place i.first) (place i.next)) × Owns J.owner u t.cursor) (sym same) (I, rest))
+
+-- a turn of the search along a walk
+module _ (m : Scale) (M : Laws m) (r : ℕ → Option ℕ) (net : Net) (F : Fitting net r) (N : Limits net) (d : ℕ → Option ℕ) (from : Candidate) (old : Heap Candidate) where
+  pub offering_walk : (index : Index) (s : LinksInto) → s.index.now ≡ index → s.cursor ≡ place index.first from.node →
+      Indexed net (place index.first) (place index.next) → Heaped (ValueBefore m) (held old) →
+      Along net from.node s × Offering m r net d from old old (above s.cursor)
+  offering_walk index s e q I H =
+      let (le, none, along) = along_start net index from.node s e q I in
+      (along, offering_down m M r net F N d from old old _ _ le none (offering_start m M r net F N d from old H))
+
+  module _ (k : ℕ) (s t : LinksInto) (A : Along net from.node s) (S : Stepped s (Some k) t) (here : Heap Candidate) (O : Offering m r net d from old here (above s.cursor)) where
+    pub offering_walk_none : Offered (given m r) net d from k None → Along net from.node t × Offering m r net d from old here (above t.cursor)
+    offering_walk_none off =
+        let (at, le, none, along) = along_step net from.node k s t A S in
+        (along, offering_down m M r net F N d from old here _ k le none (offering_none m M r net F N d from old k here (subst (Offering m r net d from old here) at O) off))
+
+    pub offering_walk_some : length (held old) + links_into net from.node (length net.places) ≤ capacity old →
+        (e : Candidate) → Offered (given m r) net d from k (Some e) → {A B : Type 0} (b : Result A B) (new : Heap Candidate) →
+        MatchResult b (λ _. IsPermutation (e ∷ held here) (held new)) (λ _. new ≡ here) → MatchResult b (λ _. length (held here) < capacity here) (λ _. length (held here) ≡ capacity here) →
+        (Heaped (ValueBefore m) (held here) → Heaped (ValueBefore m) (held new)) → capacity new ≡ capacity here →
+        Along net from.node t × Offering m r net d from old new (above t.cursor)
+    offering_walk_some room e off b new taken full H keeps =
+        let (at, le, none, along) = along_step net from.node k s t A S in (
+          along,
+          offering_down m M r net F N d from old new _ k le none
+              (offering_some m M r net F N d from old k here (subst (Offering m r net d from old here) at O) room e off b new taken full H keeps),
+        )

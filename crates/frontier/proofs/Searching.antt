@@ -3,8 +3,8 @@ use Rattle.std.proofs.Common.{◌≡◌, ℕ, ◌+◌, ◌<◌, ◌≤◌, true,
 use mathlib.Core.Logic.{∥∥₁_elim}
 use native.Mathlib.Bridge.{le_prop}
 use Rattle.std.specs.List.Sorted.{IsPermutation}
-use Rattle.std.specs.List.{AllByRecursion as All}
-use Rattle.std.proofs.ByRecursion.{all-has}
+use Rattle.std.specs.List.{All}
+use Rattle.std.proofs.lemmas.List.Elements.{All-contains}
 use Rattle.std.proofs.lemmas.List.Sorted.{length_permutation}
 use Rattle.definitions.specs.declared.Link.{Link}
 use Rattle.definitions.specs.Networks.{Net, Limits, place}
@@ -18,15 +18,16 @@ use Rattle.definitions.proofs.Settling.{fewer_due, begins, skips, settles, ends,
 use Rattle.heap.specs.declared.Heap.{Heap}
 use Rattle.heap.specs.Heaps.{Heaped}
 use Rattle.heap.specs.Holds.{held, capacity}
-use Rattle.heap.proofs.Held.{pop_keeps, pop_held, pop_only, has_none}
+use Rattle.heap.proofs.Held.{pop_keeps, pop_held, pop_only, contains_none}
 use Rattle.frontier.specs.declared.entries.Candidate.{Candidate}
 use Rattle.frontier.specs.Orders.{ValueBefore}
 use Rattle.frontier.specs.Offers.{Fitting}
 use Rattle.frontier.specs.Progress.{Waiting, Due, Offering, Searching, leads_on, links_into, links_open}
 use Rattle.frontier.specs.OrdersLemmas.{itself}
-use Rattle.frontier.proofs.Tallies.{open_less, tally_few}
+use Rattle.std.proofs.lemmas.List.Sums.{count_by-le-length}
+use Rattle.frontier.proofs.Tallies.{open_less}
 use Rattle.frontier.proofs.Offering.{offered_all, holds_inside}
-use Rattle.frontier.proofs.Stored.{place_set_same, place_set_other}
+use Rattle.std.proofs.lemmas.List.{get_or-set_same, get_or-set_other}
 
 -- an empty heap for a heap that holds nothing
 empty_heap : (ρ : Valuation) (net : Net) (t : ℕ) (d : ℕ → Option ℕ) (Due : ℕ → Link → Type 0) (last : ℕ) (es : List Candidate) → es ≡ [] →
@@ -36,8 +37,8 @@ empty_heap ρ net t d Due last es e R = record {
   met = R.met;
   newest = R.newest;
   behind = R.behind;
-  ahead = λ w u i. absurd (has_none es _ e i);
-  origin = λ w u i. absurd (has_none es _ e i);
+  ahead = λ w u i. absurd (contains_none es _ e i);
+  origin = λ w u i. absurd (contains_none es _ e i);
   kept = R.kept;
   waits = λ k l b w h du n q mk z. absurd (R.waits k l b w h du n q mk z);
 }
@@ -46,7 +47,7 @@ empty_heap ρ net t d Due last es e R = record {
 pub settle_room : (net : Net) (values : List (Option ℕ)) (u v : ℕ) → u < length values → place values u ≡ None →
     links_open net (place values) ≡ links_open net (place (set values u (Some v))) + links_into net u (length net.places)
 settle_room net values u v lt fresh =
-    open_less net u v (place values) (place (set values u (Some v))) fresh (place_set_same values u (Some v) lt) (λ x ne. place_set_other values u x (Some v) ne)
+    open_less net u v (place values) (place (set values u (Some v))) fresh (get_or-set_same values u (Some v) None lt) (λ x ne. get_or-set_other values u x (Some v) None ne)
 
 module _ (m : Scale) (M : Laws m) (r : ℕ → Option ℕ) (net : Net) (F : Fitting net r) (N : Limits net) (t : ℕ) where
   lawful : Lawful (given m r) net Value
@@ -62,7 +63,7 @@ module _ (m : Scale) (M : Laws m) (r : ℕ → Option ℕ) (net : Net) (F : Fitt
       let now = set values from.node (Some from.value) in
       let R0 = fewer_due (given m r) net t Value lawful (place now) (Waiting (held old)) (λ k l. l.head ≡ from.node → ⊥) (Due from.node (length net.places)) from.value
       (λ k l h due e. let z = due e in let y = holds_inside net k l h in omega arith) R in
-      let R1 = O.offered t (place_set_same values from.node (Some from.value) lt) R0 in
+      let R1 = O.offered t (get_or-set_same values from.node (Some from.value) None lt) R0 in
       let a = settle_room net values from.node from.value lt fresh in
       let b = O.few in
       let c = O.room in
@@ -82,9 +83,9 @@ module _ (m : Scale) (M : Laws m) (r : ℕ → Option ℕ) (net : Net) (F : Fitt
       subst (λ xs. Offering m r net (place xs) (record { value = v; node = t }) old new 0 → Searching m r net t xs new) (sym is) (λ O.
       let from : Candidate = record { value = v; node = t } in
       let a : length (held old) ≡ 0 = ap length empty in
-      let b : links_open net (place values) ≤ length net.places = tally_few (λ k. leads_on (place values) (place net.places k)) (length net.places) in
+      let b : links_open net (place values) ≤ length net.places = count_by-le-length (leads_on (place values)) net.places in
       let d = place (set values t (Some v)) in
-      let R = begins (given m r) net t Value lawful d (place_set_same values t (Some v) lt ∙ ap Some e) (λ u n. place_set_other values t u (Some v) n ∙ none u) in
+      let R = begins (given m r) net t Value lawful d (get_or-set_same values t (Some v) None lt ∙ ap Some e) (λ u n. get_or-set_other values t u (Some v) None n ∙ none u) in
       let Q = empty_heap (given m r) net t d (λ k l. l.head ≡ t → ⊥) m.start (held old) empty R in
       settled from values old new lt (none t) few (omega arith) O (subst (Running (given m r) net t d (Waiting (held old)) (λ k l. l.head ≡ t → ⊥)) (sym e) Q))
 
@@ -97,7 +98,7 @@ module _ (m : Scale) (M : Laws m) (r : ℕ → Option ℕ) (net : Net) (F : Fitt
     least : (v u : ℕ) → Waiting (held old) v u → m.no_worse x.value v ≡ true
     least v u i = ⊎_elim
         (λ p. itself m M x.value v (in_fits (given m r) net t Value lawful (place values) (Waiting (held old)) (λ k l. Unit {0}) S.last S.running x.value x.node here) (sym (ap (λ y. y.value) p)))
-        (λ p. (all-has (ValueBefore m x) (held new) _ (first S.order) p).by_value)
+        (λ p. (All-contains (ValueBefore m x) (held new) _ (first S.order) p).by_value)
         (pop_keeps (held old) (held new) x _ s i)
 
     left : (v u : ℕ) → (u ≡ x.node → ⊥) → Waiting (held old) v u → Waiting (held new) v u
@@ -126,7 +127,7 @@ module _ (m : Scale) (M : Laws m) (r : ℕ → Option ℕ) (net : Net) (F : Fitt
         settled x values new after popped_inside fresh S.nodes (let a = length_permutation _ _ s in let b = S.room in omega arith) O
         (settles (given m r) net t Value lawful (place values) (Waiting (held old)) (λ k l. Unit {0}) S.last S.running x.value x.node here (Waiting (held new)) least
         (λ v u i. pop_only (held old) (held new) x _ s i) left (place (set values x.node (Some x.value))) fresh
-        (place_set_same values x.node (Some x.value) popped_inside) (λ y ne. place_set_other values x.node y (Some x.value) ne) (λ k l. tt)))
+        (get_or-set_same values x.node (Some x.value) None popped_inside) (λ y ne. get_or-set_other values x.node y (Some x.value) None ne) (λ k l. tt)))
 
     -- and there is less to do
     pub settle_less : (after : Heap Candidate) → place values x.node ≡ None → (now : List (Option ℕ)) → now ≡ set values x.node (Some x.value) →
@@ -142,4 +143,4 @@ module _ (m : Scale) (M : Laws m) (r : ℕ → Option ℕ) (net : Net) (F : Fitt
   -- at the end nothing waits
   pub searching_end : (values : List (Option ℕ)) (heap : Heap Candidate) → Searching m r net t values heap → held heap ≡ [] → Labels (given m r) net t (place values)
   searching_end values heap S e =
-      ends (given m r) net t Value lawful (place values) (Waiting (held heap)) (λ k l. Unit {0}) S.last S.running (λ w u i. has_none (held heap) _ e i) (λ k l. tt)
+      ends (given m r) net t Value lawful (place values) (Waiting (held heap)) (λ k l. Unit {0}) S.last S.running (λ w u i. contains_none (held heap) _ e i) (λ k l. tt)

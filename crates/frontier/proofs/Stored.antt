@@ -1,23 +1,13 @@
 -- What stands at a place after a write, and in a cleared list.
-use Rattle.std.proofs.Common.{◌≡◌, ℕ, zero, suc, ◌<◌, true, false, List, length, set, replicate, is_some, Some, None, Option, sym, refl, ap, ◌∙◌, arith}
+use Rattle.std.proofs.Common.{◌≡◌, ℕ, zero, suc, true, false, List, length, replicate, is_some, Some, None, Option, sym, refl, ap, ◌∙◌, arith}
 use lib.ListN.{length-replicate}
-use Rattle.std.proofs.lemmas.List.{get_or-set_same, get_or-set_other, get_or-replicate}
 use Rattle.definitions.specs.Networks.{place}
 
 module _ {X : Type 0} where
-  pub place_set_same : (xs : List (Option X)) (k : ℕ) (v : Option X) → k < length xs → place (set xs k v) k ≡ v
-  place_set_same xs k v h = get_or-set_same xs k v None h
-
-  pub place_set_other : (xs : List (Option X)) (k j : ℕ) (v : Option X) → (j ≡ k → ⊥) → place (set xs k v) j ≡ place xs j
-  place_set_other xs k j v n = get_or-set_other xs k j v None n
-
   pub place_cleared : (n k : ℕ) → ◌≡◌ {A = Option X} (place (replicate n None) k) None
   place_cleared zero k = refl
   place_cleared (suc n) zero = refl
   place_cleared (suc n) (suc k) = place_cleared n k
-
-  pub place_filled : (n k : ℕ) (x : X) → k < n → place (replicate n (Some x)) k ≡ Some x
-  place_filled n k x h = get_or-replicate n k (Some x) None h
 
   pub unset : (o : Option X) → is_some o ≡ false → o ≡ None
   unset None e = refl

@@ -2,8 +2,8 @@
 use Rattle.std.proofs.Common.{◌≡◌, ℕ, ◌+◌, ◌<◌, ◌≤◌, ◌⊎◌, List, [], ◌∷◌, length, set, Some, None, Option, sym, ap, ◌∙◌, subst, inl, inr, ⊎_elim, arith, length-set}
 use native.Mathlib.Decide.{ℕ_discrete}
 use Rattle.std.specs.List.Sorted.{IsPermutation}
-use Rattle.std.specs.List.{AllByRecursion as All}
-use Rattle.std.proofs.ByRecursion.{all-has}
+use Rattle.std.specs.List.{All}
+use Rattle.std.proofs.lemmas.List.Elements.{All-contains}
 use Rattle.std.proofs.lemmas.List.Sorted.{length_permutation}
 use Rattle.std.proofs.lemmas.Bool.{cases_lt}
 use Rattle.definitions.specs.declared.Link.{Link}
@@ -15,7 +15,7 @@ use Rattle.definitions.proofs.Stepwise.{fewer_due, begins, skips, settles, ends}
 use Rattle.heap.specs.declared.Heap.{Heap}
 use Rattle.heap.specs.Heaps.{Heaped}
 use Rattle.heap.specs.Holds.{held, capacity}
-use Rattle.heap.proofs.Held.{pop_keeps, pop_held, pop_only, has_none}
+use Rattle.heap.proofs.Held.{pop_keeps, pop_held, pop_only, contains_none}
 use Rattle.frontier.specs.declared.entries.Settled.{Settled}
 use Rattle.frontier.specs.declared.entries.Hop.{Hop}
 use Rattle.frontier.specs.Orders.{StepsBefore}
@@ -23,8 +23,8 @@ use Rattle.frontier.specs.Hops.{NoNext}
 use Rattle.frontier.specs.Progress.{Due, leads_on, links_open, Hopping, HopOffering, Walking}
 use Rattle.frontier.proofs.Offering.{holds_inside}
 use Rattle.frontier.proofs.Searching.{settle_room}
-use Rattle.frontier.proofs.Stored.{place_set_same, place_set_other}
-use Rattle.frontier.proofs.Tallies.{tally_few}
+use Rattle.std.proofs.lemmas.List.{get_or-set_same, get_or-set_other}
+use Rattle.std.proofs.lemmas.List.Sums.{count_by-le-length}
 
 module _ (ρ : Valuation) (net : Net) (N : Limits net) (t : ℕ) (d : ℕ → Option ℕ) (S : Labels ρ net t d) where
   empty_heap : (s nx : ℕ → Option ℕ) (Due : ℕ → Link → Type 0) (last : ℕ) (es : List Hop) → es ≡ [] →
@@ -32,8 +32,8 @@ module _ (ρ : Valuation) (net : Net) (N : Limits net) (t : ℕ) (d : ℕ → Op
   empty_heap s nx Due last es e R = record {
     none_at_t = R.none_at_t;
     behind = R.behind;
-    ahead = λ n k i. absurd (has_none es _ e i);
-    origin = λ n k i. absurd (has_none es _ e i);
+    ahead = λ n k i. absurd (contains_none es _ e i);
+    origin = λ n k i. absurd (contains_none es _ e i);
     taken = R.taken;
     kept = R.kept;
     waits = λ k l c h du T q z. absurd (R.waits k l c h du T q z);
@@ -51,7 +51,7 @@ module _ (ρ : Valuation) (net : Net) (N : Limits net) (t : ℕ) (d : ℕ → Op
       let now = set steps from.node (Some from.steps) in
       let R0 = fewer_due ρ net t (place now) (place nexts) (Hopping (held old)) (λ k l. l.head ≡ from.node → ⊥) (Due from.node (length net.places)) from.steps
       (λ k l h due e. let z = due e in let y = holds_inside net k l h in omega arith) R in
-      let R1 = O.offered t (place nexts) S (place_set_same steps from.node (Some from.steps) lt) R0 in
+      let R1 = O.offered t (place nexts) S (get_or-set_same steps from.node (Some from.steps) None lt) R0 in
       let a = settle_room net steps from.node from.steps lt fresh in
       let b = O.few in
       let c = O.room in
@@ -75,9 +75,9 @@ module _ (ρ : Valuation) (net : Net) (N : Limits net) (t : ℕ) (d : ℕ → Op
       subst (λ xs. HopOffering ρ net d (place xs) (record { node = t; steps = 0 }) old new 0 → Walking ρ net t xs nexts new) (sym is) (λ O.
       let from : Settled = record { node = t; steps = 0 } in
       let a : length (held old) ≡ 0 = ap length empty in
-      let b : links_open net (place steps) ≤ length net.places = tally_few (λ k. leads_on (place steps) (place net.places k)) (length net.places) in
+      let b : links_open net (place steps) ≤ length net.places = count_by-le-length (leads_on (place steps)) net.places in
       let s = place (set steps t (Some 0)) in
-      let R = begins ρ net t s (place nexts) (place_set_same steps t (Some 0) lt) (λ u n. place_set_other steps t u (Some 0) n ∙ none u) in
+      let R = begins ρ net t s (place nexts) (get_or-set_same steps t (Some 0) None lt) (λ u n. get_or-set_other steps t u (Some 0) None n ∙ none u) in
       counted from steps nexts old new lt (none t) few fewn room (omega arith) (unled t, λ u _. unled u) O (empty_heap s (place nexts) (λ k l. l.head ≡ t → ⊥) 0 (held old) empty R))
 
   module _ (steps nexts : List (Option ℕ)) (old new : Heap Hop) (W : Walking ρ net t steps nexts old) (x : Hop)
@@ -89,7 +89,7 @@ module _ (ρ : Valuation) (net : Net) (N : Limits net) (t : ℕ) (d : ℕ → Op
     least : (n j : ℕ) → Hopping (held old) n j → (x.steps < n) ⊎ ((x.steps ≡ n) × (x.link ≤ j))
     least n j i = ⊎_elim
         (λ p. inr (sym (ap (λ y. y.steps) p), (let z : j ≡ x.link = ap (λ y. y.link) p in omega arith)))
-        (λ p. let (le, tie) = all-has (StepsBefore x) (held new) _ (first W.order) p in
+        (λ p. let (le, tie) = All-contains (StepsBefore x) (held new) _ (first W.order) p in
         elim (cases_lt x.steps n) [ inl lt ↦ inl lt | inr ge ↦ (let e : x.steps ≡ n = omega arith in inr (e, tie e)) ])
         (pop_keeps (held old) (held new) x _ s i)
 
@@ -130,11 +130,11 @@ module _ (ρ : Valuation) (net : Net) (N : Limits net) (t : ℕ) (d : ℕ → Op
       -- the other nodes without steps, and t, still have no next link
       still_idle : place steps l.tail ≡ None → NoNext t (place (set steps l.tail (Some x.steps))) (place (set nexts l.tail (Some x.link)))
       still_idle fresh = (
-        place_set_other nexts l.tail t (Some x.link) (λ q. not_both (place steps l.tail) 0 (ap (place steps) (sym q) ∙ W.running.none_at_t) fresh) ∙ W.idle.0,
+        get_or-set_other nexts l.tail t (Some x.link) None (λ q. not_both (place steps l.tail) 0 (ap (place steps) (sym q) ∙ W.running.none_at_t) fresh) ∙ W.idle.0,
         λ u e. elim (ℕ_discrete u l.tail) [
           | yes p ↦ absurd (not_both (place (set steps l.tail (Some x.steps)) u) x.steps
-              (ap (place (set steps l.tail (Some x.steps))) p ∙ place_set_same steps l.tail (Some x.steps) hop_inside.0) e)
-          | no n ↦ place_set_other nexts l.tail u (Some x.link) n ∙ W.idle.1 u (sym (place_set_other steps l.tail u (Some x.steps) n) ∙ e)
+              (ap (place (set steps l.tail (Some x.steps))) p ∙ get_or-set_same steps l.tail (Some x.steps) None hop_inside.0) e)
+          | no n ↦ get_or-set_other nexts l.tail u (Some x.link) None n ∙ W.idle.1 u (sym (get_or-set_other steps l.tail u (Some x.steps) None n) ∙ e)
         ],
       )
 
@@ -151,8 +151,8 @@ module _ (ρ : Valuation) (net : Net) (N : Limits net) (t : ℕ) (d : ℕ → Op
               (let a = W.room in omega arith) hop_short (still_idle fresh) O
               (settles ρ net t (place steps) (place nexts) (Hopping (held old)) (λ k l. Unit {0}) W.last W.running x.steps x.link l h here (Hopping (held new)) least
               (λ n j i. pop_only (held old) (held new) x _ s i) left (place (set steps l.tail (Some x.steps))) (place (set nexts l.tail (Some x.link))) fresh
-              (place_set_same steps l.tail (Some x.steps) hop_inside.0) (place_set_same nexts l.tail (Some x.link) hop_inside.1)
-              (λ y ne. place_set_other steps l.tail y (Some x.steps) ne) (λ y ne. place_set_other nexts l.tail y (Some x.link) ne) (λ k l. tt)))
+              (get_or-set_same steps l.tail (Some x.steps) None hop_inside.0) (get_or-set_same nexts l.tail (Some x.link) None hop_inside.1)
+              (λ y ne. get_or-set_other steps l.tail y (Some x.steps) None ne) (λ y ne. get_or-set_other nexts l.tail y (Some x.link) None ne) (λ k l. tt)))
 
       -- and there is less to do
       pub count_less : (after : Heap Hop) → place steps l.tail ≡ None → (now : List (Option ℕ)) → now ≡ set steps l.tail (Some x.steps) →
@@ -168,4 +168,4 @@ module _ (ρ : Valuation) (net : Net) (N : Limits net) (t : ℕ) (d : ℕ → Op
   -- at the end nothing waits
   pub walking_end : (steps nexts : List (Option ℕ)) (heap : Heap Hop) → Walking ρ net t steps nexts heap → held heap ≡ [] → Nexts ρ net t (place steps) (place nexts)
   walking_end steps nexts heap W e =
-      ends ρ net t (place steps) (place nexts) (Hopping (held heap)) (λ k l. Unit {0}) W.last W.running (λ n k i. has_none (held heap) _ e i) (λ k l. tt)
+      ends ρ net t (place steps) (place nexts) (Hopping (held heap)) (λ k l. Unit {0}) W.last W.running (λ n k i. contains_none (held heap) _ e i) (λ k l. tt)

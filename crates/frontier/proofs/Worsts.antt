@@ -11,7 +11,7 @@ use Rattle.definitions.proofs.Givens.{Recoveries, worst_labels, worst_nexts}
 use Rattle.definitions.proofs.Lawfuls.{Value, worst_lawful, recovery_fits}
 use Rattle.definitions.proofs.Props.{labels_answer}
 use Rattle.frontier.specs.Offers.{Fitting}
-use Rattle.frontier.proofs.Stored.{place_set_same, place_set_other}
+use Rattle.std.proofs.lemmas.List.{get_or-set_same, get_or-set_other}
 
 -- one link more has its recovery value
 pub recovered_more : (m : Scale) (net : Net) (t : ℕ) (rs : List (Option ℕ)) (k : ℕ) (o : Option ℕ) → k < length rs →
@@ -21,8 +21,8 @@ pub recovered_more : (m : Scale) (net : Net) (t : ℕ) (rs : List (Option ℕ)) 
 recovered_more m net t rs k o lt below here j l ltj h = elim (ℕ_discrete j k) [
   | yes p ↦ (
       let b : BestIs (plain m) (at_risk j net) t l.tail o = subst (λ x. BestIs (plain m) (at_risk x net) t l.tail o) (sym p) (here l (subst (λ x. Holds net x l) p h)) in
-      subst (BestIs (plain m) (at_risk j net) t l.tail) (sym (ap (place (set rs k o)) p ∙ place_set_same rs k o lt)) b)
-  | no n ↦ subst (BestIs (plain m) (at_risk j net) t l.tail) (sym (place_set_other rs k j o n)) (below j l (omega arith) h)
+      subst (BestIs (plain m) (at_risk j net) t l.tail) (sym (ap (place (set rs k o)) p ∙ get_or-set_same rs k o None lt)) b)
+  | no n ↦ subst (BestIs (plain m) (at_risk j net) t l.tail) (sym (get_or-set_other rs k j o None n)) (below j l (omega arith) h)
 ]
 
 -- and where the place is empty it has none
@@ -30,8 +30,8 @@ pub empty_more : (net : Net) (rs : List (Option ℕ)) (k : ℕ) (o : Option ℕ)
     ((j : ℕ) → place net.places j ≡ None → place rs j ≡ None) → (place net.places k ≡ None → o ≡ None) →
     (j : ℕ) → place net.places j ≡ None → place (set rs k o) j ≡ None
 empty_more net rs k o lt others here j e = elim (ℕ_discrete j k) [
-  | yes p ↦ ap (place (set rs k o)) p ∙ (place_set_same rs k o lt ∙ here (subst (λ x. place net.places x ≡ None) p e))
-  | no n ↦ place_set_other rs k j o n ∙ others j e
+  | yes p ↦ ap (place (set rs k o)) p ∙ (get_or-set_same rs k o None lt ∙ here (subst (λ x. place net.places x ≡ None) p e))
+  | no n ↦ get_or-set_other rs k j o None n ∙ others j e
 ]
 
 module _ (m : Scale) (M : Laws m) (net : Net) (N : Limits net) (t : ℕ) (r : ℕ → Option ℕ)

@@ -1,7 +1,7 @@
 -- How far a loop has come: what holds of the index while it is made, and of the two searches between their turns.
 -- No promise of a public call rests on these.
-use Rattle.std.specs.Prelude.{◌≡◌, ℕ, zero, suc, ◌+◌, ◌<◌, ◌≤◌, Bool, false, cond, not, List, length, is_some, Some, None, Option, ◌==◌}
-use Rattle.std.specs.List.{ContainsAt as Has}
+use Rattle.std.specs.Prelude.{◌≡◌, ℕ, ◌+◌, ◌<◌, ◌≤◌, Bool, false, not, List, length, take, is_some, Some, None, Option, ◌==◌}
+use Rattle.std.specs.List.{count_by, Contains}
 use Rattle.definitions.specs.declared.Link.{Link}
 use Rattle.definitions.specs.Networks.{Net, Holds, place}
 use Rattle.definitions.specs.Measures.{Scale}
@@ -15,7 +15,8 @@ use Rattle.frontier.specs.declared.entries.Settled.{Settled}
 use Rattle.frontier.specs.declared.entries.Hop.{Hop}
 use Rattle.frontier.specs.declared.index.Index.{Index}
 use Rattle.frontier.specs.Orders.{ValueBefore, StepsBefore}
-use Rattle.frontier.specs.Indexes.{UpTo}
+use Rattle.frontier.specs.declared.index.LinksInto.{LinksInto}
+use Rattle.frontier.specs.Indexes.{UpTo, Falling, Indexed}
 use Rattle.frontier.specs.Hops.{NoNext}
 
 -- The head of the link that a place holds.
@@ -26,13 +27,14 @@ head_of (Some l) = Some l.head
 -- `first` and `next` are an index of the links at the places below n.
 pub record IndexedBelow (net : Net) (first next : ℕ → Option ℕ) (n : ℕ) : Type 0 where
   pub first_owned : (u j : ℕ) → first u ≡ Some j → (j < n) × (head_of (place net.places j) ≡ Some u)
-  pub next_owned : (u j i : ℕ) → head_of (place net.places j) ≡ Some u → next j ≡ Some i → (i < j) × (head_of (place net.places i) ≡ Some u)
+  pub falls : Falling next
+  pub next_owned : (u j i : ℕ) → head_of (place net.places j) ≡ Some u → next j ≡ Some i → head_of (place net.places i) ≡ Some u
   pub first_covers : (k : ℕ) (l : Link) → k < n → Holds net k l → UpTo k (first l.head)
   pub next_covers : (u j k : ℕ) (l : Link) → j < n → head_of (place net.places j) ≡ Some u → Holds net k l → l.head ≡ u → k < j → UpTo k (next j)
 
 -- The index while it is made: the places below n are entered.
 abbrev pub Indexing : Net → Index → ℕ → Type 0
-Indexing net index n = IndexedBelow net (place index.first) (place index.next) n × (length index.first ≡ 256) × (length index.next ≡ 1024)
+Indexing net index n = IndexedBelow net (place index.first) (place index.next) n
 
 -- The lowest number above the given place; 0 where there is none.
 abbrev pub above : Option ℕ → ℕ
@@ -44,14 +46,13 @@ abbrev pub Owns : (ℕ → Option ℕ) → ℕ → Option ℕ → Type 0
 Owns owner u None = Unit {0}
 Owns owner u (Some j) = owner j ≡ Some u
 
+-- The walk goes by an index of the network, and stands at a place of u or at its end.
+abbrev pub Along : Net → ℕ → LinksInto → Type 0
+Along net u s = (I : Indexed net (place s.index.now.first) (place s.index.now.next)) × Owns I.owner u s.cursor
+
 -- Of the links into u, those from place b on have been offered.
 abbrev pub Due : ℕ → ℕ → ℕ → Link → Type 0
 Due u b k l = l.head ≡ u → b ≤ k
-
--- Of how many numbers below n the test holds.
-unfoldable pub tally : (ℕ → Bool) → ℕ → ℕ
-tally f zero = 0
-tally f (suc n) = cond (f n) 1 0 + tally f n
 
 -- The place holds a link into u.
 abbrev pub leads_to : ℕ → Option Link → Bool
@@ -65,15 +66,15 @@ leads_on d (Some l) = not (is_some (d l.head))
 
 -- How many of the first n places hold a link into u.
 abbrev pub links_into : Net → ℕ → ℕ → ℕ
-links_into net u n = tally (λ k. leads_to u (place net.places k)) n
+links_into net u n = count_by (leads_to u) (take n net.places)
 
 -- How many links lead to a node without a label. Each of them may still be offered, once.
 abbrev pub links_open : Net → (ℕ → Option ℕ) → ℕ
-links_open net d = tally (λ k. leads_on d (place net.places k)) (length net.places)
+links_open net d = count_by (leads_on d) net.places
 
 -- The entries hold the value w for the node u.
 abbrev pub Waiting : List Candidate → ℕ → ℕ → Type 0
-Waiting es w u = Has es (record { value = w; node = u })
+Waiting es w u = Contains es (record { value = w; node = u })
 
 -- What has become of a heap since `from` was settled, where of the links into it those from place b on
 -- have been offered.
@@ -95,7 +96,7 @@ pub record Searching (m : Scale) (r : ℕ → Option ℕ) (net : Net) (t : ℕ) 
 
 -- The entries hold the link k with n steps.
 abbrev pub Hopping : List Hop → ℕ → ℕ → Type 0
-Hopping es n k = Has es (record { steps = n; link = k })
+Hopping es n k = Contains es (record { steps = n; link = k })
 
 -- What has become of a heap since `from` got its steps, where of the links into it those from place b on
 -- have been offered.

@@ -7,21 +7,21 @@ use measures::Measure;
 use std::marker::PhantomData;
 
 // A node with a value at which it can be reached.
-#[derive(Clone, Copy)]
+#[derive(Clone, Copy, PartialEq, Eq, Debug)]
 pub struct Candidate {
     pub value: u64,
     pub node: u16,
 }
 
-// A link with the steps that its tail has by it.
-#[derive(Clone, Copy)]
+// A link with the steps that its tail has by it: the fewest steps first, and then by number.
+#[derive(Clone, Copy, PartialEq, Eq, PartialOrd, Ord, Debug)]
 pub struct Hop {
     pub steps: u16,
     pub link: u16,
 }
 
 // A node with its steps: the fewest tight links that lead from it to the destination.
-#[derive(Clone, Copy)]
+#[derive(Clone, Copy, PartialEq, Eq, Debug)]
 pub struct Settled {
     pub node: u16,
     pub steps: u16,
@@ -43,6 +43,7 @@ impl<M: Measure> Order<Candidate> for ByValue<M> {
 
     ghost same = { value_same _ M.Measure.lawful };
 
+    // Stays written out: the measure orders the values, so no derive can.
     fn no_later(a: &Candidate, b: &Candidate) -> bool {
         if a.value == b.value {
             a.node <= b.node
@@ -67,10 +68,6 @@ impl Order<Hop> for BySteps {
     ghost same = { steps_same };
 
     fn no_later(a: &Hop, b: &Hop) -> bool {
-        if a.steps == b.steps {
-            a.link <= b.link
-        } else {
-            a.steps < b.steps
-        }
+        a <= b
     }
 }

@@ -13,7 +13,7 @@ use Rattle.frontier.specs.declared.entries.Candidate.{Candidate}
 use Rattle.frontier.specs.declared.entries.Settled.{Settled}
 use Rattle.frontier.specs.declared.entries.Hop.{Hop}
 use Rattle.frontier.specs.Progress.{Offering, HopOffering, Walking, links_into, links_open}
-use Rattle.frontier.proofs.Stored.{unset, set_to, place_set_same, place_set_other}
+use Rattle.frontier.proofs.Stored.{unset, set_to}
 use Rattle.frontier.proofs.Tallies.{open_less}
 use Rattle.frontier.specs.declared.record.NodeRecord.{NodeRecord}
 use Rattle.frontier.specs.Records.{blank, value_of, steps_of, next_of, values_in, steps_in, nexts_in}
@@ -104,6 +104,6 @@ walking_nexts ρ net t steps nexts nexts' heap e = subst (λ nx. Walking ρ net 
 -- nothing is written where there is nothing
 pub still_none : (xs : List (Option ℕ)) (t : ℕ) → t < length xs → ((u : ℕ) → place xs u ≡ None) → (u : ℕ) → place (set xs t None) u ≡ None
 still_none xs t lt none u = elim (ℕ_discrete u t) [
-  | yes p ↦ ap (place (set xs t None)) p ∙ place_set_same xs t None lt
-  | no n ↦ place_set_other xs t u None n ∙ none u
+  | yes p ↦ ap (place (set xs t None)) p ∙ get_or-set_same xs t None None lt
+  | no n ↦ get_or-set_other xs t u None None n ∙ none u
 ]

@@ -4,9 +4,11 @@ ghost use Rattle.definitions.specs.Networks.{place};
 ghost use Rattle.frontier.specs.Indexes.{Indexed};
 ghost use Rattle.frontier.specs.Offers.{Fitting};
 ghost use Rattle.frontier.specs.Records.{blank};
+ghost use Rattle.search.specs.Offering.{OffersLinks};
 
 use frontier::index::{Index, index_links};
 use frontier::record::NodeRecord;
+use heap::{Heap, Order};
 use measures::Measure;
 use networks::network::Network;
 use std::marker::PhantomData;
@@ -40,6 +42,23 @@ impl<'a, N: Network, M: Measure> Graph<'a, N, M> {
             index,
             recoveries,
             measure: PhantomData,
+        }
+    }
+
+    // Puts on the heap what the links into a node offer, the highest place first.
+    pub(crate) fn offer_links<E: Copy, O: Order<E>, F: Fn(usize) -> Option<E>>(
+        &self,
+        node: u16,
+        offer: F,
+        heap: &mut Heap<E>,
+    )
+        requires { F.IsAlwaysCallable offer }
+        ensures { OffersLinks O.Order.before (N.Network.meaning self.now.network.now) node (F.post offer) heap.old heap.new }
+    {
+        for k in self.index.links_into(node) {
+            if let Some(entry) = offer(k) {
+                let _ = heap.push::<O>(entry);
+            }
         }
     }
 }

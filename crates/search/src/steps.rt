@@ -5,7 +5,7 @@ ghost use Rattle.definitions.specs.Searches.{given, Labels, Nexts};
 ghost use Rattle.heap.specs.Heaps.{Heaped};
 ghost use Rattle.heap.specs.Holds.{held, capacity};
 ghost use Rattle.frontier.specs.Orders.{StepsBefore};
-ghost use Rattle.frontier.specs.Progress.{links_into, links_open, HopOffering};
+ghost use Rattle.frontier.specs.Progress.{links_open, HopOffering};
 ghost use Rattle.frontier.specs.Hops.{LabelTight, HopOffered, NoNext};
 ghost use Rattle.frontier.specs.Records.{value_of, steps_of, next_of, values_in, steps_in, nexts_in, Unreached};
 
@@ -21,7 +21,7 @@ use networks::network::Network;
 
 impl<'a, N: Network, M: Measure> Graph<'a, N, M> {
     // Does the link at place k make of the value at its head the value at its tail?
-    fn is_tight(&self, records: &[NodeRecord], k: u16, link: Link) -> bool
+    fn is_tight(&self, records: &[NodeRecord], k: usize, link: Link) -> bool
         ensures { Decides result (LabelTight (given M.Measure.scale (place self.now.recoveries.now)) (value_of records.now) k link) }
     {
         let Some(beyond) = record_at(records, link.head).value else {
@@ -30,16 +30,15 @@ impl<'a, N: Network, M: Measure> Graph<'a, N, M> {
         let Some(own) = record_at(records, link.tail).value else {
             return false;
         };
-        let recovery = at(self.recoveries, usize::from(k));
-        link_value::<M>(recovery, link.figure, beyond) == Some(own)
+        link_value::<M>(at(self.recoveries, k), link.figure, beyond) == Some(own)
     }
 
     // The hop that place k offers, now that `from` has its steps: a tight link into it, from a node without steps.
-    fn offer_hop(&self, records: &[NodeRecord], from: Settled, k: u16) -> Option<Hop>
+    fn offer_hop(&self, records: &[NodeRecord], from: Settled, k: usize) -> Option<Hop>
         requires { from.steps ≤ 1024 }
         ensures { HopOffered (given M.Measure.scale (place self.now.recoveries.now)) (N.Network.meaning self.now.network.now) (value_of records.now) (steps_of records.now) from k result }
     {
-        let link = self.network.place(usize::from(k))?;
+        let link = self.network.place(k)?;
         if link.head != from.node || record_at(records, link.tail).steps.is_some() {
             return None;
         }
@@ -48,24 +47,8 @@ impl<'a, N: Network, M: Measure> Graph<'a, N, M> {
         }
         Some(Hop {
             steps: from.steps + 1,
-            link: k,
+            link: k as u16,
         })
-    }
-
-    // Offers every tight link into a node that has just got its steps.
-    fn offer_hops(&self, records: &[NodeRecord], from: Settled, heap: &mut Heap<Hop>)
-        requires short { from.steps ≤ 1024 }
-        requires order { Heaped StepsBefore (held heap.old) }
-        requires room { length (held heap.old) + links_into (N.Network.meaning self.now.network.now) from.node (length (N.Network.meaning self.now.network.now).places) ≤ capacity heap.old }
-        ensures { HopOffering (given M.Measure.scale (place self.now.recoveries.now)) (N.Network.meaning self.now.network.now) (value_of records.now) (steps_of records.now) from heap.old heap.new 0 }
-    {
-        let mut cursor = at(&self.index.first, usize::from(from.node));
-        while let Some(k) = cursor {
-            if let Some(hop) = self.offer_hop(records, from, k) {
-                let _ = heap.push::<BySteps>(hop);
-            }
-            cursor = at(&self.index.next, usize::from(k));
-        }
     }
 
     // Gives a node its steps and its next link, and offers the tight links into it.
@@ -89,7 +72,8 @@ impl<'a, N: Network, M: Measure> Graph<'a, N, M> {
         let record = &mut records[usize::from(from.node)];
         record.steps = Some(from.steps);
         record.next = next;
-        self.offer_hops(records, from, heap);
+        let offer = |k| self.offer_hop(records, from, k);
+        self.offer_links::<_, BySteps, _>(from.node, offer, heap);
     }
 
     // Finds the steps and the next link of every node that has a value: links are taken in order, the fewest

@@ -6,7 +6,7 @@ ghost use Rattle.heap.specs.Heaps.{Heaped};
 ghost use Rattle.heap.specs.Holds.{held, capacity};
 ghost use Rattle.frontier.specs.Orders.{ValueBefore};
 ghost use Rattle.frontier.specs.Offers.{made, Offered};
-ghost use Rattle.frontier.specs.Progress.{Offering, links_into, links_open};
+ghost use Rattle.frontier.specs.Progress.{Offering, links_open};
 ghost use Rattle.frontier.specs.Records.{value_of, values_in, Unreached};
 
 use crate::graph::{Graph, record_at};
@@ -33,34 +33,18 @@ pub(crate) fn link_value<M: Measure>(recovery: Option<u64>, figure: u32, value: 
 
 impl<'a, N: Network, M: Measure> Graph<'a, N, M> {
     // The entry that place k offers, now that `from` has its value: a link into it, from a node without one.
-    fn offer(&self, records: &[NodeRecord], from: Candidate, k: u16) -> Option<Candidate>
+    fn offer(&self, records: &[NodeRecord], from: Candidate, k: usize) -> Option<Candidate>
         ensures { Offered (given M.Measure.scale (place self.now.recoveries.now)) (N.Network.meaning self.now.network.now) (value_of records.now) from k result }
     {
-        let link = self.network.place(usize::from(k))?;
+        let link = self.network.place(k)?;
         if link.head != from.node || record_at(records, link.tail).value.is_some() {
             return None;
         }
-        let recovery = at(self.recoveries, usize::from(k));
-        let value = link_value::<M>(recovery, link.figure, from.value)?;
+        let value = link_value::<M>(at(self.recoveries, k), link.figure, from.value)?;
         Some(Candidate {
             value,
             node: link.tail,
         })
-    }
-
-    // Offers every link into a node that has just got its value.
-    fn offer_links(&self, records: &[NodeRecord], from: Candidate, heap: &mut Heap<Candidate>)
-        requires order { Heaped (ValueBefore M.Measure.scale) (held heap.old) }
-        requires room { length (held heap.old) + links_into (N.Network.meaning self.now.network.now) from.node (length (N.Network.meaning self.now.network.now).places) ≤ capacity heap.old }
-        ensures { Offering M.Measure.scale (place self.now.recoveries.now) (N.Network.meaning self.now.network.now) (value_of records.now) from heap.old heap.new 0 }
-    {
-        let mut cursor = at(&self.index.first, usize::from(from.node));
-        while let Some(k) = cursor {
-            if let Some(entry) = self.offer(records, from, k) {
-                let _ = heap.push::<ByValue<M>>(entry);
-            }
-            cursor = at(&self.index.next, usize::from(k));
-        }
     }
 
     // Gives a node its value, and offers the links into it.
@@ -74,7 +58,8 @@ impl<'a, N: Network, M: Measure> Graph<'a, N, M> {
         ensures unreached { Unreached records.old → Unreached records.new }
     {
         records[usize::from(candidate.node)].value = Some(candidate.value);
-        self.offer_links(records, candidate, heap);
+        let offer = |k| self.offer(records, candidate, k);
+        self.offer_links::<_, ByValue<M>, _>(candidate.node, offer, heap);
     }
 
     // Finds the best value of every node to the destination t: nodes get their values in order, the best first. No node has

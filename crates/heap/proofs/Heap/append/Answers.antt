@@ -1,25 +1,20 @@
-use Rattle.std.proofs.Common.{◌≡◌, ◌+◌, ◌-◌, ◌<◌, ◌∷◌, length, take, ◌∙◌, subst, arith, rules}
+use Rattle.std.proofs.Common.{◌∷◌, take, set, subst, arith, length-set}
 use Rattle.std.specs.List.Sorted.{IsPermutation}
-use Rattle.std.proofs.lemmas.List.{length-take}
-use Rattle.std.proofs.lemmas.List.Sorted.{length_permutation}
 use Rattle.heap.specs.Heaps.{Heaped}
-use Rattle.heap.proofs.Parts.{front, push_entries, push_order, length_one_more}
+use Rattle.heap.proofs.Parts.{front, push_entries, push_order}
 use Rattle.heap.proofs.Heap.append.Goals as goal
 
-pub returns : goal.returns
-returns g c =
+pub returns-clause-entries : goal.returns-clause-entries
+returns-clause-entries g c =
     let xs = c.args.self.now.entries.now in
     let n = c.args.self.now.len in
-    let x = c.args.entry in
-    let zs = c.lift_last.new.entries in
-    let R = g.O.Order.before in
-    let lt : n < length xs = omega arith in
-    let m : n + 1 - 0 ≡ n + 1 = omega arith in
     let s = c.lift_last.ensures.shuffled in
-    let is = front zs _ (n + 1) (length_permutation _ zs s ∙ length_one_more xs n (n + 1 - 0) x lt m) in
-    record {
-      entries = subst (IsPermutation (x ∷ take n xs)) is (push_entries xs zs n (n + 1 - 0) x lt m s);
-      room = simp length-take (omega arith);
-      order = λ h. subst (Heaped R) is (push_order R xs zs n (n + 1 - 0) x lt m c.lift_last.ensures.order h);
-      slots = search rules;
-    }
+    let is = front (set xs n c.args.entry) _ _ _ (simp length-set (omega arith)) s in
+    subst (IsPermutation (c.args.entry ∷ take n xs)) is (push_entries xs _ n c.args.entry c.requires s)
+
+pub returns-clause-order : goal.returns-clause-order
+returns-clause-order g c =
+    let xs = c.args.self.now.entries.now in
+    let n = c.args.self.now.len in
+    let is = front (set xs n c.args.entry) _ _ _ (simp length-set (omega arith)) c.lift_last.ensures.shuffled in
+    λ h. subst (Heaped g.O.Order.before) is (push_order _ xs _ n c.args.entry c.requires c.lift_last.ensures.order h)

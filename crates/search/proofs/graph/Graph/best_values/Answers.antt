@@ -7,7 +7,7 @@ use Rattle.heap.specs.Holds.{held}
 use Rattle.heap.proofs.Held.{heaped_none}
 use Rattle.frontier.specs.Progress.{leads_on, links_open}
 use Rattle.frontier.specs.Records.{blank, value_of, steps_of, next_of, values_in}
-use Rattle.frontier.proofs.Tallies.{tally_few}
+use Rattle.std.proofs.lemmas.List.Sums.{count_by-le-length}
 use Rattle.frontier.proofs.Stored.{unset, set_to}
 use Rattle.frontier.proofs.Searching.{searching_start, searching_skip, searching_settle, searching_end, popped_inside, settle_less}
 use Rattle.search.proofs.Columns.{value_list, value_long, value_unset, value_there, cleared, offering_list}
@@ -19,7 +19,7 @@ settle-requires-clause-order g c = heaped_none _ _ c.new-heap.ensures.none
 pub settle-requires-clause-room : goal.settle-requires-clause-room
 settle-requires-clause-room g c =
     let net = g.N.Network.meaning c.args.self.now.network.now in
-    let few : links_open net (value_of c.fill.new.self) ≤ length net.places = tally_few (λ k. leads_on (value_of c.fill.new.self) (place net.places k)) _ in
+    let few : links_open net (value_of c.fill.new.self) ≤ length net.places = count_by-le-length (leads_on (value_of c.fill.new.self)) net.places in
     let bare : length (held c.new-heap.result) ≡ 0 = ap length c.new-heap.ensures.none in
     omega arith
 

@@ -8,7 +8,7 @@ use Rattle.frontier.specs.Hops.{NoNext}
 use Rattle.frontier.specs.Progress.{leads_on, links_open}
 use Rattle.frontier.specs.Records.{steps_of, steps_in, nexts_in}
 use Rattle.frontier.proofs.Offering.{read_holds, not_both_links}
-use Rattle.frontier.proofs.Tallies.{tally_few}
+use Rattle.std.proofs.lemmas.List.Sums.{count_by-le-length}
 use Rattle.frontier.proofs.Walking.{walking_start, walking_skip, walking_settle, walking_end, hop_holds, hop_short, count_less}
 use Rattle.search.proofs.Columns.{steps_list, next_list, steps_long, next_long, steps_unset, steps_there, hopping_list, still_none, walking_nexts}
 use Rattle.search.proofs.graph.Graph.next_links.Goals as goal
@@ -19,7 +19,7 @@ count_node-requires-clause-order g c = heaped_none _ _ c.new-heap.ensures.none
 pub count_node-requires-clause-room : goal.count_node-requires-clause-room
 count_node-requires-clause-room g c =
     let net = g.N.Network.meaning c.args.self.now.network.now in
-    let few : links_open net (steps_of c.args.records.now) ≤ length net.places = tally_few (λ k. leads_on (steps_of c.args.records.now) (place net.places k)) _ in
+    let few : links_open net (steps_of c.args.records.now) ≤ length net.places = count_by-le-length (leads_on (steps_of c.args.records.now)) net.places in
     let bare : length (held c.new-heap.result) ≡ 0 = ap length c.new-heap.ensures.none in
     omega arith
 
@@ -97,10 +97,12 @@ loop-hop-smaller g c = let told = c.in-Some.ensures in omega (arith, length_perm
 pub loop-hop-preserved : goal.loop-hop-preserved
 loop-hop-preserved g c =
     let told = c.in-Some.ensures in
-    let (a, e) = steps_there c.loop-hop.records _ _ c.record_at.ensures c.if-is_none.ensures in
-    (walking_skip _ _ (g.N.Network.limits c.args.self.now.network.now) c.args.t _ c.requires.labels (steps_in c.loop-hop.records) (nexts_in c.loop-hop.records) c.loop-hop.heap c.pop.new.self
-    c.loop-hop.invariant.0 c.in-Some.hop told.entries told.order told.first told.slots c.in-Some-place.link
-    (read_holds (g.N.Network.meaning c.args.self.now.network.now) c.in-Some.hop.link c.from.result c.in-Some-place.link c.from.ensures c.in-Some-place.ensures) a e, c.loop-hop.invariant.1)
+    let (a, e) = steps_there c.loop-hop.records _ _ c.record_at.ensures c.if-is_none.ensures in (
+      walking_skip _ _ (g.N.Network.limits c.args.self.now.network.now) c.args.t _ c.requires.labels (steps_in c.loop-hop.records) (nexts_in c.loop-hop.records) c.loop-hop.heap c.pop.new.self
+          c.loop-hop.invariant.0 c.in-Some.hop told.entries told.order told.first told.slots c.in-Some-place.link
+          (read_holds (g.N.Network.meaning c.args.self.now.network.now) c.in-Some.hop.link c.from.result c.in-Some-place.link c.from.ensures c.in-Some-place.ensures) a e,
+      c.loop-hop.invariant.1,
+    )
 
 pub returns-clause-values : goal.returns-clause-values
 returns-clause-values g c = c.loop-hop.invariant.1

@@ -1,13 +1,11 @@
-use Rattle.definitions.specs.Networks.{place}
-use Rattle.frontier.specs.Indexes.{Indexed}
-use Rattle.frontier.specs.Progress.{above, Owns, Offering}
-use Rattle.frontier.specs.Records.{value_of, steps_of, values_in, steps_in, nexts_in}
+use Rattle.std.proofs.Common.{ℕ, List}
+use Rattle.frontier.specs.Progress.{above, Along}
+use Rattle.search.specs.Offering.{HaveOffered}
 use Rattle.search.proofs.graph.Graph.offer_links.Given as goal
 
-abbrev pub invariant-loop-cursor : goal.invariant-loop-cursor
-invariant-loop-cursor g l =
-    Offering g.M.Measure.scale (place l.self.recoveries.now) (g.N.Network.meaning l.self.network.now) (value_of l.records) l.from l.initial.heap l.heap (above l.cursor)
-    × ((I : Indexed (g.N.Network.meaning l.self.network.now) (place l.self.index.now.first) (place l.self.index.now.next)) → Owns I.owner l.from.node l.cursor)
-
-abbrev pub decreases-loop-cursor : goal.decreases-loop-cursor
-decreases-loop-cursor g l = above l.cursor
+abbrev pub invariant-loop-k : goal.invariant-loop-k
+invariant-loop-k g l =
+    (goal.iterator-loop-k g).can_next l.k-iterator
+    × (goal.iterator-loop-k g).is_finite l.k-iterator
+    × ∥ Along (g.N.Network.meaning l.self.network.now) l.node l.k-iterator ∥₁
+    × ((ks : List ℕ) × HaveOffered g.O.Order.before (g.N.Network.meaning l.self.network.now) l.node (goal.F-post g l.offer) l.initial.heap ks (above l.k-iterator.cursor) l.heap)
