@@ -1,8 +1,8 @@
 -- The index of a network, place by place.
-use Rattle.std.proofs.Common.{◌≡◌, ℕ, ◌+◌, ◌<◌, ◌≤◌, Bool, List, length, set, Some, None, Option, sym, refl, ap, ◌∙◌, subst, arith, length-set}
+use Rattle.std.proofs.Common.{◌≡◌, ℕ, ◌+◌, ◌<◌, ◌≤◌, Bool, List, length, set, Some, None, Option, sym, refl, ap, ◌∙◌, subst, arith}
 use native.Mathlib.Decide.{ℕ_discrete}
 use Rattle.definitions.specs.declared.Link.{Link}
-use Rattle.definitions.specs.Networks.{Net, Holds, Limits, place, without}
+use Rattle.definitions.specs.Networks.{Net, Holds, place, without}
 use Rattle.definitions.proofs.Layers.{same_link, below, length_emptied}
 use Rattle.definitions.proofs.Settling.{not_both}
 use Rattle.frontier.specs.declared.index.Index.{Index}
