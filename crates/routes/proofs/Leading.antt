@@ -67,6 +67,6 @@ module _ (m : Scale) (M : Laws m) (net : Net) (N : Limits net) (t : ℕ) (rs : L
 
 -- a search with a destination that is a node leaves its records
 pub searched : (ρ : Valuation) (net : Net) (t : ℕ) (rs rs' : List NodeRecord) (r : Result Unit SearchFault) → t < net.nodes → length rs ≡ 256 → SearchAnswer ρ net t rs r rs' → Recorded ρ net t rs'
-searched ρ net t rs rs' (Ok _) lt all (_, _, R) = R
-searched ρ net t rs rs' (Err RecordCount) lt all (short, _) = absurd (short all)
-searched ρ net t rs rs' (Err NoDestination) lt all (_, out, _) = absurd (omega arith)
+searched ρ net t rs rs' (Ok _) lt all A = A.found.2
+searched ρ net t rs rs' (Err RecordCount) lt all A = absurd (A.count (λ i. Err RecordCount) all)
+searched ρ net t rs rs' (Err NoDestination) lt all A = let z = (A.destination (λ i. Err NoDestination)).1 in absurd (omega arith)

@@ -1,5 +1,5 @@
 -- What the records of the nodes say, as a search leaves them.
-use Rattle.std.specs.Prelude.{◌≡◌, ℕ, ◌<◌, ◌≤◌, List, [], ◌∷◌, length, Some, Ok, Err, Option, Result, ◌≢◌}
+use Rattle.std.specs.Prelude.{◌≡◌, ℕ, ◌<◌, ◌≤◌, List, [], ◌∷◌, length, Some, Err, Option, Result, OnOk, OnErr, ◌≢◌}
 use Rattle.definitions.specs.declared.Link.{Link}
 use Rattle.definitions.specs.Networks.{Net, Holds}
 use Rattle.definitions.specs.Routes.{Valuation}
@@ -16,10 +16,11 @@ pub record Recorded (ρ : Valuation) (net : Net) (t : ℕ) (rs : List NodeRecord
 
 -- What a search with the destination t answers. Of 256 records, where t is a node, it fills each by its valuation. It
 -- refuses where there are not 256 records, and else where t is no node, and the records are then as before.
-abbrev pub SearchAnswer : Valuation → Net → ℕ → List NodeRecord → Result Unit SearchFault → List NodeRecord → Type 0
-SearchAnswer ρ net t rs (Ok _) rs' = (t < net.nodes) × (length rs ≡ 256) × Recorded ρ net t rs'
-SearchAnswer ρ net t rs (Err RecordCount) rs' = (length rs ≢ 256) × (rs' ≡ rs)
-SearchAnswer ρ net t rs (Err NoDestination) rs' = (length rs ≡ 256) × (net.nodes ≤ t) × (rs' ≡ rs)
+pub record SearchAnswer (ρ : Valuation) (net : Net) (t : ℕ) (rs : List NodeRecord) (r : Result Unit SearchFault) (rs' : List NodeRecord) : Type 0 where
+  pub found : OnOk r ((t < net.nodes) × (length rs ≡ 256) × Recorded ρ net t rs')
+  pub count : r ≡ Err RecordCount → length rs ≢ 256
+  pub destination : r ≡ Err NoDestination → (length rs ≡ 256) × (net.nodes ≤ t)
+  pub refused : OnErr r (rs' ≡ rs)
 
 -- The places lead from u to e along the next links nx.
 abbrev pub Leads : Net → (ℕ → Option ℕ) → ℕ → ℕ → List ℕ → Type 0

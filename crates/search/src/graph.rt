@@ -25,6 +25,8 @@ pub(crate) struct Graph<'a, N: Network, M: Measure> {
 }
 
 impl<'a, N: Network, M: Measure> Graph<'a, N, M> {
+    ghost use Rattle.search.specs.Graphs.{net_of, valuation_of};
+
     // The graph of a network and its recovery values. The links are indexed in the memory that is lent; what it held does not
     // matter.
     pub(crate) fn new(
@@ -53,7 +55,7 @@ impl<'a, N: Network, M: Measure> Graph<'a, N, M> {
         heap: &mut Heap<E>,
     )
         requires { F.IsAlwaysCallable offer }
-        ensures { OffersLinks O.Order.before (N.Network.meaning self.now.network.now) node (F.post offer) heap.old heap.new }
+        ensures { OffersLinks O.Order.before (net_of self.now) node (F.post offer) heap.old heap.new }
     {
         for k in self.index.links_into(node) {
             if let Some(entry) = offer(k) {

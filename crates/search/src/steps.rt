@@ -1,7 +1,7 @@
 // The search for steps and next links.
 ghost use Rattle.std.specs.Prelude.{◌≡◌, ◌+◌, ◌<◌, ◌≤◌, length, Some, None, Decides, slice_set};
 ghost use Rattle.definitions.specs.Networks.{place};
-ghost use Rattle.definitions.specs.Searches.{given, Labels, Nexts};
+ghost use Rattle.definitions.specs.Searches.{Labels, Nexts};
 ghost use Rattle.heap.specs.Heaps.{Heaped};
 ghost use Rattle.heap.specs.Holds.{held, capacity};
 ghost use Rattle.frontier.specs.Orders.{StepsBefore};
@@ -20,14 +20,15 @@ use measures::Measure;
 use networks::network::Network;
 
 impl<'a, N: Network, M: Measure> Graph<'a, N, M> {
+    ghost use Rattle.search.specs.Graphs.{net_of, valuation_of};
+
     // Does the link at place k make of the value at its head the value at its tail?
     fn is_tight(&self, records: &[NodeRecord], k: usize, link: Link) -> bool
-        ensures { Decides result (LabelTight (given M.Measure.scale (place self.now.recoveries.now)) (value_of records.now) k link) }
+        ensures { Decides result (LabelTight (valuation_of self.now) (value_of records.now) k link) }
     {
-        let Some(beyond) = record_at(records, link.head).value else {
-            return false;
-        };
-        let Some(own) = record_at(records, link.tail).value else {
+        let own = record_at(records, link.tail).value;
+        let beyond = record_at(records, link.head).value;
+        let (Some(own), Some(beyond)) = (own, beyond) else {
             return false;
         };
         link_value::<M>(at(self.recoveries, k), link.figure, beyond) == Some(own)
@@ -36,7 +37,7 @@ impl<'a, N: Network, M: Measure> Graph<'a, N, M> {
     // The hop that place k offers, now that `from` has its steps: a tight link into it, from a node without steps.
     fn offer_hop(&self, records: &[NodeRecord], from: Settled, k: usize) -> Option<Hop>
         requires { from.steps ≤ 1024 }
-        ensures { HopOffered (given M.Measure.scale (place self.now.recoveries.now)) (N.Network.meaning self.now.network.now) (value_of records.now) (steps_of records.now) from k result }
+        ensures { HopOffered (valuation_of self.now) (net_of self.now) (value_of records.now) (steps_of records.now) from k result }
     {
         let link = self.network.place(k)?;
         if link.head != from.node || record_at(records, link.tail).steps.is_some() {
@@ -56,18 +57,18 @@ impl<'a, N: Network, M: Measure> Graph<'a, N, M> {
         &self,
         from: Settled,
         next: Option<u16>,
-        records: &mut [NodeRecord],
+        records: &mut [NodeRecord; 256],
         heap: &mut Heap<Hop>,
     )
         requires short { from.steps ≤ 1024 }
-        requires inside { from.node < length records.old }
+        requires inside { from.node < 256 }
         requires fresh { steps_of records.old from.node ≡ None }
         requires order { Heaped StepsBefore (held heap.old) }
-        requires room { length (held heap.old) + links_open (N.Network.meaning self.now.network.now) (steps_of records.old) ≤ capacity heap.old }
+        requires room { length (held heap.old) + links_open (net_of self.now) (steps_of records.old) ≤ capacity heap.old }
         ensures steps { steps_in records.new ≡ slice_set (steps_in records.old) from.node (Some from.steps) }
         ensures nexts { nexts_in records.new ≡ slice_set (nexts_in records.old) from.node next }
         ensures values { values_in records.new ≡ values_in records.old }
-        ensures offered { HopOffering (given M.Measure.scale (place self.now.recoveries.now)) (N.Network.meaning self.now.network.now) (value_of records.new) (steps_of records.new) from heap.old heap.new 0 }
+        ensures offered { HopOffering (valuation_of self.now) (net_of self.now) (value_of records.new) (steps_of records.new) from heap.old heap.new 0 }
     {
         let record = &mut records[usize::from(from.node)];
         record.steps = Some(from.steps);
@@ -78,14 +79,13 @@ impl<'a, N: Network, M: Measure> Graph<'a, N, M> {
 
     // Finds the steps and the next link of every node that has a value: links are taken in order, the fewest
     // steps first and then the lowest number.
-    pub(crate) fn next_links(&self, t: u16, records: &mut [NodeRecord], entries: &mut [Hop])
-        requires labels { Labels (given M.Measure.scale (place self.now.recoveries.now)) (N.Network.meaning self.now.network.now) t (value_of records.old) }
+    pub(crate) fn next_links(&self, t: u16, records: &mut [NodeRecord; 256], entries: &mut [Hop])
+        requires labels { Labels (valuation_of self.now) (net_of self.now) t (value_of records.old) }
         requires unreached { Unreached records.old }
-        requires inside { t < length records.old }
-        requires nodes { (N.Network.meaning self.now.network.now).nodes ≤ length records.old }
-        requires room { length (N.Network.meaning self.now.network.now).places ≤ length entries.old }
+        requires inside { t < (net_of self.now).nodes }
+        requires room { length (net_of self.now).places ≤ length entries.old }
         ensures values { values_in records.new ≡ values_in records.old }
-        ensures nexts { Nexts (given M.Measure.scale (place self.now.recoveries.now)) (N.Network.meaning self.now.network.now) t (steps_of records.new) (next_of records.new) }
+        ensures nexts { Nexts (valuation_of self.now) (net_of self.now) t (steps_of records.new) (next_of records.new) }
         ensures idle { NoNext t (steps_of records.new) (next_of records.new) }
     {
         let mut heap = Heap::new(entries);
@@ -109,16 +109,15 @@ impl<'a, N: Network, M: Measure> Graph<'a, N, M> {
     pub(crate) fn best_records(
         &self,
         t: u16,
-        records: &mut [NodeRecord],
+        records: &mut [NodeRecord; 256],
         candidates: &mut [Candidate],
         hops: &mut [Hop],
     )
-        requires inside { t < length records.old }
-        requires nodes { (N.Network.meaning self.now.network.now).nodes ≤ length records.old }
-        requires candidates { length (N.Network.meaning self.now.network.now).places ≤ length candidates.old }
-        requires hops { length (N.Network.meaning self.now.network.now).places ≤ length hops.old }
-        ensures labels { Labels (given M.Measure.scale (place self.now.recoveries.now)) (N.Network.meaning self.now.network.now) t (value_of records.new) }
-        ensures nexts { Nexts (given M.Measure.scale (place self.now.recoveries.now)) (N.Network.meaning self.now.network.now) t (steps_of records.new) (next_of records.new) }
+        requires inside { t < (net_of self.now).nodes }
+        requires candidates { length (net_of self.now).places ≤ length candidates.old }
+        requires hops { length (net_of self.now).places ≤ length hops.old }
+        ensures labels { Labels (valuation_of self.now) (net_of self.now) t (value_of records.new) }
+        ensures nexts { Nexts (valuation_of self.now) (net_of self.now) t (steps_of records.new) (next_of records.new) }
         ensures idle { NoNext t (steps_of records.new) (next_of records.new) }
     {
         self.best_values(t, records, candidates);

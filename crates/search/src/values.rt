@@ -1,7 +1,7 @@
 // The search for the best values.
 ghost use Rattle.std.specs.Prelude.{◌≡◌, ◌+◌, ◌<◌, ◌≤◌, length, Some, None, slice_set};
 ghost use Rattle.definitions.specs.Networks.{place};
-ghost use Rattle.definitions.specs.Searches.{given, Labels};
+ghost use Rattle.definitions.specs.Searches.{Labels};
 ghost use Rattle.heap.specs.Heaps.{Heaped};
 ghost use Rattle.heap.specs.Holds.{held, capacity};
 ghost use Rattle.frontier.specs.Orders.{ValueBefore};
@@ -32,9 +32,11 @@ pub(crate) fn link_value<M: Measure>(recovery: Option<u64>, figure: u32, value: 
 }
 
 impl<'a, N: Network, M: Measure> Graph<'a, N, M> {
+    ghost use Rattle.search.specs.Graphs.{net_of, valuation_of};
+
     // The entry that place k offers, now that `from` has its value: a link into it, from a node without one.
     fn offer(&self, records: &[NodeRecord], from: Candidate, k: usize) -> Option<Candidate>
-        ensures { Offered (given M.Measure.scale (place self.now.recoveries.now)) (N.Network.meaning self.now.network.now) (value_of records.now) from k result }
+        ensures { Offered (valuation_of self.now) (net_of self.now) (value_of records.now) from k result }
     {
         let link = self.network.place(k)?;
         if link.head != from.node || record_at(records, link.tail).value.is_some() {
@@ -48,13 +50,18 @@ impl<'a, N: Network, M: Measure> Graph<'a, N, M> {
     }
 
     // Gives a node its value, and offers the links into it.
-    fn settle(&self, candidate: Candidate, records: &mut [NodeRecord], heap: &mut Heap<Candidate>)
-        requires inside { candidate.node < length records.old }
+    fn settle(
+        &self,
+        candidate: Candidate,
+        records: &mut [NodeRecord; 256],
+        heap: &mut Heap<Candidate>,
+    )
+        requires inside { candidate.node < 256 }
         requires fresh { value_of records.old candidate.node ≡ None }
         requires order { Heaped (ValueBefore M.Measure.scale) (held heap.old) }
-        requires room { length (held heap.old) + links_open (N.Network.meaning self.now.network.now) (value_of records.old) ≤ capacity heap.old }
+        requires room { length (held heap.old) + links_open (net_of self.now) (value_of records.old) ≤ capacity heap.old }
         ensures settled { values_in records.new ≡ slice_set (values_in records.old) candidate.node (Some candidate.value) }
-        ensures offered { Offering M.Measure.scale (place self.now.recoveries.now) (N.Network.meaning self.now.network.now) (value_of records.new) candidate heap.old heap.new 0 }
+        ensures offered { Offering M.Measure.scale (place self.now.recoveries.now) (net_of self.now) (value_of records.new) candidate heap.old heap.new 0 }
         ensures unreached { Unreached records.old → Unreached records.new }
     {
         records[usize::from(candidate.node)].value = Some(candidate.value);
@@ -64,11 +71,15 @@ impl<'a, N: Network, M: Measure> Graph<'a, N, M> {
 
     // Finds the best value of every node to the destination t: nodes get their values in order, the best first. No node has
     // steps or a next link then.
-    pub(crate) fn best_values(&self, t: u16, records: &mut [NodeRecord], entries: &mut [Candidate])
-        requires inside { t < length records.old }
-        requires nodes { (N.Network.meaning self.now.network.now).nodes ≤ length records.old }
-        requires room { length (N.Network.meaning self.now.network.now).places ≤ length entries.old }
-        ensures labels { Labels (given M.Measure.scale (place self.now.recoveries.now)) (N.Network.meaning self.now.network.now) t (value_of records.new) }
+    pub(crate) fn best_values(
+        &self,
+        t: u16,
+        records: &mut [NodeRecord; 256],
+        entries: &mut [Candidate],
+    )
+        requires inside { t < (net_of self.now).nodes }
+        requires room { length (net_of self.now).places ≤ length entries.old }
+        ensures labels { Labels (valuation_of self.now) (net_of self.now) t (value_of records.new) }
         ensures unreached { Unreached records.new }
     {
         records.fill(NodeRecord::default());

@@ -3,11 +3,22 @@ use Rattle.definitions.specs.Plans.{worst}
 use Rattle.routes.specs.Records.{Recorded}
 use Rattle.routes.proofs.searches.worst_records.Goals as goal
 
+pub returns-in_err-t : goal.returns-in_err-t
+returns-in_err-t g c = record { found = search rules; count = search rules; destination = search rules; refused = search rules }
+
+pub returns-in_err-worst_tables : goal.returns-in_err-worst_tables
+returns-in_err-worst_tables g c = record { found = search rules; count = search rules; destination = search rules; refused = search rules }
+
 pub returns : goal.returns
 returns g c =
     let net = g.N.Network.meaning c.args.network.now in
     let found = c.in_ok-worst_tables.ensures.found in
     let same : c.in_ok-t.t ≡ c.args.destination = search rules in
     let all : length c.args.records.now ≡ 256 = search rules in
-    subst (λ t. (t < net.nodes) × (length c.args.records.now ≡ 256) × Recorded (worst g.M.Measure.scale net t) net t c.worst_tables.new.records) same
-    (found.recovered.inside, all, record { labels = found.labels; links = found.nexts })
+    record {
+      found = subst (λ t. (t < net.nodes) × (length c.args.records.now ≡ 256) × Recorded (worst g.M.Measure.scale net t) net t c.worst_tables.new.records) same
+          (found.recovered.inside, all, record { labels = found.labels; links = found.nexts });
+      count = search rules;
+      destination = search rules;
+      refused = search rules;
+    }

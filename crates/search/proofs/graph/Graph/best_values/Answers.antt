@@ -27,7 +27,8 @@ pub loop-next-init : goal.loop-next-init
 loop-next-init g c =
     let z : c.fill.new.self ≡ replicate (length c.args.records.now) blank = search rules in
     let none = cleared c.fill.new.self _ z in
-    let long = value_long c.fill.new.self in (
+    let long = value_long c.fill.new.self in
+    let nodes = (g.N.Network.limits c.args.self.now.network.now).few_nodes in (
       searching_start _ g.met.M.Measure.lawful _ _ c.args.self.now.fitting (g.N.Network.limits c.args.self.now.network.now) c.args.t (values_in c.fill.new.self) c.new-heap.result c.settle.new.heap
           (λ u. ap (λ d. d u) (sym (value_list c.fill.new.self)) ∙ ap (λ r. r.value) (none u)) (omega arith) (omega arith) c.new-heap.ensures.none (omega arith) c.starting.result c.starting.ensures _ c.settle.ensures.settled
           (offering_list c.settle.new.records _ _ _ _ _ _ 0 c.settle.ensures.offered),

@@ -19,6 +19,6 @@ pub returns-clause-offered : goal.returns-clause-offered
 returns-clause-offered g c =
     let net = g.N.Network.meaning c.args.self.now.network.now in
     let L = given_lawful _ g.met.M.Measure.lawful net (g.N.Network.limits c.args.self.now.network.now) 0 _ c.args.self.now.fitting in
-    let room = steps_room c.args.records.now net _ c.requires.inside c.requires.fresh in
+    let room = steps_room c.args.records.now net _ (omega arith) c.requires.fresh in
     let (ks, made) = c.offer_links.ensures in
     hopping_all _ net _ _ c.args.from c.args.heap.now _ L _ (λ k o lt off. search rules) c.requires.order (omega arith) ks 0 c.offer_links.new.heap made

@@ -26,6 +26,7 @@ count_node-requires-clause-room g c =
 pub loop-hop-init : goal.loop-hop-init
 loop-hop-init g c =
     let rs = c.args.records.now in
+    let nodes = (g.N.Network.limits c.args.self.now.network.now).few_nodes in
     let long = steps_long rs in
     let long2 = next_long rs in (
       walking_nexts _ _ _ _ _ _ _ c.count_node.ensures.nexts

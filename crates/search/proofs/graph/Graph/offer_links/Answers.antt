@@ -15,8 +15,7 @@ pub loop-k-preserved-in-Some-offer : goal.loop-k-preserved-in-Some-offer
 loop-k-preserved-in-Some-offer g c =
     let net = g.N.Network.meaning c.args.self.now.network.now in
     let (le, none, along) = step_below net c.args.node c.in-Some.k c.loop-k.k-iterator c.next.new.self c.loop-k.invariant.2 c.in-Some.ensures.steps in
-    let (ks, before) = c.loop-k.invariant.3 in
-    (
+    let (ks, before) = c.loop-k.invariant.3 in (
       falls net c.args.node c.next.new.self along,
       tt,
       along,
@@ -29,8 +28,7 @@ pub loop-k-preserved : goal.loop-k-preserved
 loop-k-preserved g c =
     let net = g.N.Network.meaning c.args.self.now.network.now in
     let (le, none, along) = step_below net c.args.node c.in-Some.k c.loop-k.k-iterator c.next.new.self c.loop-k.invariant.2 c.in-Some.ensures.steps in
-    let (ks, before) = c.loop-k.invariant.3 in
-    (
+    let (ks, before) = c.loop-k.invariant.3 in (
       falls net c.args.node c.next.new.self along,
       tt,
       along,

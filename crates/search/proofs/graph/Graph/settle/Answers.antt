@@ -13,7 +13,7 @@ pub returns-clause-offered : goal.returns-clause-offered
 returns-clause-offered g c =
     let net = g.N.Network.meaning c.args.self.now.network.now in
     let few = (g.N.Network.limits c.args.self.now.network.now).few_places in
-    let room = value_room c.args.records.now net _ c.requires.inside c.requires.fresh in
+    let room = value_room c.args.records.now net _ (omega arith) c.requires.fresh in
     let (ks, made) = c.offer_links.ensures in
     offering_all g.M.Measure.scale g.met.M.Measure.lawful (place c.args.self.now.recoveries.now) net c.args.self.now.fitting (g.N.Network.limits c.args.self.now.network.now) _ c.args.candidate c.args.heap.now
     _ (λ k o lt off. search rules) c.requires.order (omega arith) ks 0 c.offer_links.new.heap made
