@@ -46,6 +46,7 @@ impl<'a, N: Network, M: Measure> Graph<'a, N, M> {
         if !self.is_tight(records, k, link) {
             return None;
         }
+        // Stays a cast: k is a place below 1024, and a conversion that can fail would add a refusal that never comes.
         Some(Hop {
             steps: from.steps + 1,
             link: k as u16,
@@ -79,6 +80,7 @@ impl<'a, N: Network, M: Measure> Graph<'a, N, M> {
 
     // Finds the steps and the next link of every node that has a value: links are taken in order, the fewest
     // steps first and then the lowest number.
+    // Stays beside best_values: a trait for both would have a law for each step of either proof, and more lines than one loop.
     pub(crate) fn next_links(&self, t: u16, records: &mut [NodeRecord; 256], entries: &mut [Hop])
         requires labels { Labels (valuation_of self.now) (net_of self.now) t (value_of records.old) }
         requires unreached { Unreached records.old }
