@@ -2,7 +2,7 @@
 // says the best delay and the best width from every node to that one.
 #![tactic(auto)]
 
-use frontier::lists::at;
+use frontier::record::NodeRecord;
 use maps::fault::MapFault;
 use maps::map::Map;
 use maps::writing::rewrite;
@@ -105,13 +105,13 @@ fn print_values<M: Measure>(
     destination: u16,
     name: &str,
 ) -> io::Result<()> {
-    let mut values = [None; 256];
+    let mut records = [NodeRecord::default(); 256];
     let mut workspace = Workspace::new();
-    if !plain_values::<Map, M>(map, destination, &mut values, &mut workspace) {
+    if plain_values::<Map, M>(map, destination, &mut records, &mut workspace).is_err() {
         return println!(rt; "There is no node {destination}.");
     }
-    for node in 0..map.node_count() {
-        match at(&values, node) {
+    for (node, record) in records.iter().take(map.node_count()).enumerate() {
+        match record.value {
             Some(value) => println!(rt;
                 "Best {name} from node {node} to node {destination}: {value}."
             )?,
