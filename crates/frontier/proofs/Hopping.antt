@@ -1,15 +1,13 @@
 -- A search for next links, as it offers the places one by one.
-use Rattle.std.proofs.Common.{◌≡◌, ℕ, ◌+◌, ◌<◌, ◌≤◌, Result, Ok, Err, eqb, List, ◌∷◌, length, Some, None, Decides, MatchResult, Option, sym, refl, ap, ◌∙◌, subst, inl, inr, arith}
+use Rattle.std.proofs.Common.{◌≡◌, ℕ, ◌+◌, ◌<◌, ◌≤◌, Result, Ok, Err, List, ◌∷◌, length, Some, None, MatchResult, Option, refl, ap, ◌∙◌, subst, inl, inr, arith}
 use native.Mathlib.Decide.{ℕ_discrete}
-use Rattle.std.proofs.lemmas.Bool.{eqb-true, eq-eqb}
 use Rattle.std.specs.List.Sorted.{IsPermutation}
 use Rattle.std.specs.List.{Contains}
 use Rattle.std.proofs.lemmas.List.Sorted.{length_permutation}
 use Rattle.definitions.specs.declared.Link.{Link}
 use Rattle.definitions.specs.Networks.{Net, place}
-use Rattle.definitions.specs.Measures.{Scale, worse}
 use Rattle.definitions.specs.Routes.{Valuation, Tight}
-use Rattle.definitions.specs.Searches.{given, Labels, Stepping}
+use Rattle.definitions.specs.Searches.{Labels, Stepping}
 use Rattle.definitions.proofs.Fixpoint.{Lawful}
 use Rattle.definitions.proofs.Following.{tight_labels, labels_tight}
 use Rattle.definitions.proofs.Layers.{same_link}
@@ -22,13 +20,9 @@ use Rattle.heap.proofs.Held.{push_keeps, push_holds, push_only}
 use Rattle.frontier.specs.declared.entries.Settled.{Settled}
 use Rattle.frontier.specs.declared.entries.Hop.{Hop}
 use Rattle.frontier.specs.Orders.{StepsBefore}
-use Rattle.frontier.specs.Offers.{made}
-use Rattle.frontier.specs.declared.index.Index.{Index}
-use Rattle.frontier.specs.declared.index.LinksInto.{LinksInto}
-use Rattle.frontier.specs.Indexes.{Indexed, Stepped}
-use Rattle.frontier.specs.Progress.{Due, links_into, above, Along, Hopping, HopOffering}
-use Rattle.frontier.specs.Hops.{LabelTight, HopOffered}
-use Rattle.frontier.proofs.Offering.{due_more, due_down, NoneBetween, holds_inside, along_start, along_step}
+use Rattle.frontier.specs.Progress.{Due, links_into, Hopping, HopOffering}
+use Rattle.frontier.specs.Hops.{HopOffered}
+use Rattle.frontier.proofs.Offering.{due_more, due_down, NoneBetween, holds_inside}
 use Rattle.frontier.proofs.Tallies.{into_front, into_hit}
 
 module _ (ρ : Valuation) (net : Net) (d s : ℕ → Option ℕ) (from : Settled) where
@@ -103,45 +97,3 @@ module _ (ρ : Valuation) (net : Net) (d s : ℕ → Option ℕ) (from : Settled
           let b = into_hit net from.node k off.0 (holds_inside net k off.0 off.1) off.1 off.2 in
           let f = O.room in
           absurd (omega arith)
-
-    -- a turn of the search along a walk
-    pub hopping_walk : (index : Index) (w : LinksInto) → w.index.now ≡ index → w.cursor ≡ place index.first from.node →
-        Indexed net (place index.first) (place index.next) → Heaped StepsBefore (held old) →
-        Along net from.node w × HopOffering ρ net d s from old old (above w.cursor)
-    hopping_walk index w e q I H =
-        let (le, none, along) = along_start net index from.node w e q I in
-        (along, hopping_down old _ _ le none (hopping_start H))
-
-    module _ (Fit : ℕ → Type 0) (L : Lawful ρ net Fit) (k : ℕ) (v w : LinksInto) (A : Along net from.node v) (S : Stepped v (Some k) w)
-        (here : Heap Hop) (O : HopOffering ρ net d s from old here (above v.cursor)) where
-      pub hopping_walk_none : HopOffered ρ net d s from k None → Along net from.node w × HopOffering ρ net d s from old here (above w.cursor)
-      hopping_walk_none off =
-          let (at, le, none, along) = along_step net from.node k v w A S in
-          (along, hopping_down here _ k le none (hopping_none Fit L k here (subst (HopOffering ρ net d s from old here) at O) off))
-
-      pub hopping_walk_some : length (held old) + links_into net from.node (length net.places) ≤ capacity old →
-          (e : Hop) → HopOffered ρ net d s from k (Some e) → {A B : Type 0} (b : Result A B) (new : Heap Hop) →
-          MatchResult b (λ _. IsPermutation (e ∷ held here) (held new)) (λ _. new ≡ here) → MatchResult b (λ _. length (held here) < capacity here) (λ _. length (held here) ≡ capacity here) →
-          (Heaped StepsBefore (held here) → Heaped StepsBefore (held new)) → capacity new ≡ capacity here →
-          Along net from.node w × HopOffering ρ net d s from old new (above w.cursor)
-      hopping_walk_some room e off b new taken full H keeps =
-          let (at, le, none, along) = along_step net from.node k v w A S in
-          (along, hopping_down new _ k le none (hopping_some Fit L k here (subst (HopOffering ρ net d s from old here) at O) room e off b new taken full H keeps))
-
--- The test of a tight link by the labels.
-pub meeting_test : (m : Scale) (r d : ℕ → Option ℕ) (k : ℕ) (l : Link) (b a w : ℕ) → d l.head ≡ Some b → d l.tail ≡ Some a →
-    made m (r k) l.figure b ≡ Some w → Decides (eqb w a) (LabelTight (given m r) d k l)
-meeting_test m r d k l b a w db da mk = (
-  (λ e. let q = eqb-true w a e in let (x, ex, p) = makes (r k) refl mk in (b, a, db, da, (x, ex, sym q ∙ p))),
-  λ (b', a', db', da', (x', ex', p')).
-      let (x, ex, p) = makes (r k) refl mk in
-      let bb : b' ≡ b = cc in
-      let aa : a ≡ a' = cc in
-      let xx : x' ≡ x = cc in
-      let pp : a' ≡ worse m x (m.extend b l.figure) = subst (λ y. a' ≡ worse m y (m.extend b l.figure)) xx (subst (λ y. a' ≡ worse m x' (m.extend y l.figure)) bb p') in
-      eq-eqb w a (p ∙ (sym pp ∙ sym aa)),
-)
-  where
-    makes : (o : Option ℕ) → r k ≡ o → made m o l.figure b ≡ Some w → (x : ℕ) × (r k ≡ Some x) × (w ≡ worse m x (m.extend b l.figure))
-    makes None e q = let z : ◌≡◌ {A = ℕ} 0 1 = cc in absurd (omega arith)
-    makes (Some x) e q = (x, e, (let z : w ≡ worse m x (m.extend b l.figure) = cc in z))

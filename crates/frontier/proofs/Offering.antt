@@ -168,30 +168,3 @@ pub along_step : (net : Net) (u k : ℕ) (s t : LinksInto) → Along net u s →
 along_step net u k s t (I, own) (is, same, then) =
     let (le, none, rest) = next_bound net _ _ I u k t.cursor (subst (Owns I.owner u) (sym is) own) (then ∙ ap (option_and_then (place s.index.now.next)) (sym is)) in
     (ap above (sym is), le, none, subst (λ i. (J : Indexed net (place i.first) (place i.next)) × Owns J.owner u t.cursor) (sym same) (I, rest))
-
--- a turn of the search along a walk
-module _ (m : Scale) (M : Laws m) (r : ℕ → Option ℕ) (net : Net) (F : Fitting net r) (N : Limits net) (d : ℕ → Option ℕ) (from : Candidate) (old : Heap Candidate) where
-  pub offering_walk : (index : Index) (s : LinksInto) → s.index.now ≡ index → s.cursor ≡ place index.first from.node →
-      Indexed net (place index.first) (place index.next) → Heaped (ValueBefore m) (held old) →
-      Along net from.node s × Offering m r net d from old old (above s.cursor)
-  offering_walk index s e q I H =
-      let (le, none, along) = along_start net index from.node s e q I in
-      (along, offering_down m M r net F N d from old old _ _ le none (offering_start m M r net F N d from old H))
-
-  module _ (k : ℕ) (s t : LinksInto) (A : Along net from.node s) (S : Stepped s (Some k) t) (here : Heap Candidate) (O : Offering m r net d from old here (above s.cursor)) where
-    pub offering_walk_none : Offered (given m r) net d from k None → Along net from.node t × Offering m r net d from old here (above t.cursor)
-    offering_walk_none off =
-        let (at, le, none, along) = along_step net from.node k s t A S in
-        (along, offering_down m M r net F N d from old here _ k le none (offering_none m M r net F N d from old k here (subst (Offering m r net d from old here) at O) off))
-
-    pub offering_walk_some : length (held old) + links_into net from.node (length net.places) ≤ capacity old →
-        (e : Candidate) → Offered (given m r) net d from k (Some e) → {A B : Type 0} (b : Result A B) (new : Heap Candidate) →
-        MatchResult b (λ _. IsPermutation (e ∷ held here) (held new)) (λ _. new ≡ here) → MatchResult b (λ _. length (held here) < capacity here) (λ _. length (held here) ≡ capacity here) →
-        (Heaped (ValueBefore m) (held here) → Heaped (ValueBefore m) (held new)) → capacity new ≡ capacity here →
-        Along net from.node t × Offering m r net d from old new (above t.cursor)
-    offering_walk_some room e off b new taken full H keeps =
-        let (at, le, none, along) = along_step net from.node k s t A S in (
-          along,
-          offering_down m M r net F N d from old new _ k le none
-              (offering_some m M r net F N d from old k here (subst (Offering m r net d from old here) at O) room e off b new taken full H keeps),
-        )

@@ -1,5 +1,5 @@
 -- What stands at a place after a write, and in a cleared list.
-use Rattle.std.proofs.Common.{◌≡◌, ℕ, zero, suc, true, false, List, length, replicate, is_some, Some, None, Option, sym, refl, ap, ◌∙◌, arith}
+use Rattle.std.proofs.Common.{◌≡◌, ℕ, zero, suc, true, false, List, length, replicate, is_some, Some, None, Option, refl, ap, ◌∙◌, arith}
 use lib.ListN.{length-replicate}
 use Rattle.definitions.specs.Networks.{place}
 
@@ -20,10 +20,3 @@ module _ {X : Type 0} where
   -- a cleared list holds nothing, and is as long as it was
   pub cleared : (xs : List (Option X)) (n : ℕ) → xs ≡ replicate n None → ((u : ℕ) → place xs u ≡ None) × (length xs ≡ n)
   cleared xs n e = ((λ u. ap (λ ys. place ys u) e ∙ place_cleared n u), ap length e ∙ length-replicate n None)
-
-  -- what was read at i = u was nothing, or something
-  pub read_unset : (xs : List (Option X)) (u i : ℕ) (o : Option X) → i ≡ u → o ≡ place xs i → is_some o ≡ false → place xs u ≡ None
-  read_unset xs u i o e q n = ap (place xs) (sym e) ∙ (sym q ∙ unset o n)
-
-  pub read_set : (xs : List (Option X)) (u i : ℕ) (o : Option X) → i ≡ u → o ≡ place xs i → is_some o ≡ true → (x : X) × (place xs u ≡ Some x)
-  read_set xs u i o e q n = let (x, p) = set_to o n in (x, ap (place xs) (sym e) ∙ (sym q ∙ p))

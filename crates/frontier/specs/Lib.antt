@@ -4,3 +4,4 @@ pub mod Offers
 pub mod Hops
 pub mod Progress
 pub mod OrdersLemmas
+pub mod Records

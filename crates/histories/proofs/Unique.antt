@@ -16,7 +16,7 @@ use Rattle.definitions.proofs.Fixpoint.{Lawful, best_one}
 use Rattle.definitions.proofs.Layers.{same_link, without_limits}
 use Rattle.definitions.proofs.Lawfuls.{Value, recovery_one, worst_lawful}
 use Rattle.definitions.proofs.Props.{best_prop}
-use Rattle.routes.specs.declared.record.NodeRecord.{NodeRecord}
+use Rattle.frontier.specs.declared.record.NodeRecord.{NodeRecord}
 use Rattle.routes.specs.Records.{Recorded, value_of, steps_of, next_of}
 use Rattle.histories.specs.State.{PlanRight}
 

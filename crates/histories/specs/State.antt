@@ -3,7 +3,7 @@ use Rattle.std.specs.Prelude.{◌≡◌, ℕ, ◌<◌, Bool, false, List, Some, 
 use Rattle.definitions.specs.Networks.{Net, without}
 use Rattle.definitions.specs.Measures.{Scale}
 use Rattle.definitions.specs.Plans.{worst}
-use Rattle.routes.specs.declared.record.NodeRecord.{NodeRecord}
+use Rattle.frontier.specs.declared.record.NodeRecord.{NodeRecord}
 use Rattle.routes.specs.Records.{Recorded}
 
 pub record State : Type 0 where

@@ -3,6 +3,7 @@
 #![tactic(auto)]
 
 use definitions::{FaultCode, GROUP_COUNT};
+use frontier::record::NodeRecord;
 use maps::fault::MapFault;
 use maps::map::Map;
 use maps::writing::rewrite;
@@ -87,13 +88,13 @@ fn print_values<M: Measure>(
     destination: u16,
     name: &str,
 ) -> io::Result<()> {
-    let mut values = [None; 256];
+    let mut records = [NodeRecord::default(); 256];
     let mut workspace = Workspace::new();
-    if !plain_values::<Map, M>(map, destination, &mut values, &mut workspace) {
+    if plain_values::<Map, M>(map, destination, &mut records, &mut workspace).is_err() {
         return println!(rt; "There is no node {destination}.");
     }
-    for (node, value) in values.iter().take(map.node_count()).enumerate() {
-        match value {
+    for (node, record) in records.iter().take(map.node_count()).enumerate() {
+        match record.value {
             Some(value) => println!(rt;
                 "Best {name} from node {node} to node {destination}: {value}."
             )?,

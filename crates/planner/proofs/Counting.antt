@@ -8,7 +8,7 @@ use Rattle.definitions.specs.Measures.{Scale, Laws}
 use Rattle.definitions.specs.Plans.{worst, Guarantee, Counted, none, one, skip}
 use Rattle.definitions.proofs.Fixpoint.{label_best, label_none}
 use Rattle.definitions.proofs.Lawfuls.{Value, worst_lawful}
-use Rattle.routes.specs.declared.record.NodeRecord.{NodeRecord}
+use Rattle.frontier.specs.declared.record.NodeRecord.{NodeRecord}
 use Rattle.routes.specs.Records.{Recorded, blank, value_of}
 use Rattle.planner.specs.Tally.{tallied}
 

@@ -14,7 +14,7 @@ use Rattle.networks.specs.declared.network.Network.{Ghosts as NetworkGhosts}
 use Rattle.measures.specs.declared.Measure.{Ghosts as MeasureGhosts}
 use Rattle.planner.specs.declared.planner.Planner.{Planner}
 use Rattle.planner.specs.Planners.{state}
-use Rattle.routes.specs.declared.record.NodeRecord.{NodeRecord}
+use Rattle.frontier.specs.declared.record.NodeRecord.{NodeRecord}
 use Rattle.routes.specs.Records.{Recorded, Leads, value_of, steps_of, next_of}
 use Rattle.routes.proofs.Leading.{onwards, detour}
 use Rattle.routes.proofs.Walking.{some_there}

@@ -1,5 +1,5 @@
 -- The records lead along held routes, and to backups.
-use Rattle.std.proofs.Common.{◌≡◌, ℕ, zero, suc, ◌<◌, Bool, List, [], ◌∷◌, length, Some, sym, ap, ◌∙◌, subst, inl, inr, arith}
+use Rattle.std.proofs.Common.{◌≡◌, ℕ, zero, suc, ◌<◌, List, [], ◌∷◌, length, Some, sym, ap, ◌∙◌, subst, inl, inr, arith}
 use native.Mathlib.Decide.{ℕ_discrete}
 use Rattle.definitions.specs.declared.Link.{Link}
 use Rattle.definitions.specs.Networks.{Net, Limits, risks, at_risk}
@@ -10,7 +10,10 @@ use Rattle.definitions.proofs.Fixpoint.{Lawful, best_label}
 use Rattle.definitions.proofs.Following.{next_label, value_steps}
 use Rattle.definitions.proofs.Layers.{without_limits}
 use Rattle.definitions.proofs.Lawfuls.{Value, plain_lawful, worst_lawful}
-use Rattle.routes.specs.declared.record.NodeRecord.{NodeRecord}
+use Rattle.frontier.specs.declared.record.NodeRecord.{NodeRecord}
+use Rattle.std.specs.Prelude.{Ok, Err, Result}
+use Rattle.routes.specs.declared.fault.SearchFault.{SearchFault}
+use Rattle.routes.specs.declared.fault.SearchFault.TheVariants.{RecordCount, NoDestination}
 use Rattle.routes.specs.Records.{Recorded, SearchAnswer, Leads, value_of, steps_of, next_of}
 
 pub some_one : {A : Type 0} (x y : A) → Some x ≡ Some y → x ≡ y
@@ -57,6 +60,7 @@ module _ (m : Scale) (M : Laws m) (net : Net) (N : Limits net) (t : ℕ) (rs : L
       (l, ks, K, (l, K.holds, subst (λ y. Held (plain m) (at_risk x net) t y ks) (sym K.starts) H), P, s)
 
 -- a search with a destination that is a node leaves its records
-pub searched : (ρ : Valuation) (net : Net) (t : ℕ) (rs rs' : List NodeRecord) (r : Bool) → t < net.nodes → length rs ≡ 256 → SearchAnswer ρ net t rs r rs' → Recorded ρ net t rs'
-searched ρ net t rs rs' r lt all (inl (_, _, _, R)) = R
-searched ρ net t rs rs' r lt all (inr (out, _, _)) = absurd (out lt all)
+pub searched : (ρ : Valuation) (net : Net) (t : ℕ) (rs rs' : List NodeRecord) (r : Result Unit SearchFault) → t < net.nodes → length rs ≡ 256 → SearchAnswer ρ net t rs r rs' → Recorded ρ net t rs'
+searched ρ net t rs rs' (Ok _) lt all A = A.found.2
+searched ρ net t rs rs' (Err RecordCount) lt all A = absurd (A.count (λ i. Err RecordCount) all)
+searched ρ net t rs rs' (Err NoDestination) lt all A = let z = (A.destination (λ i. Err NoDestination)).1 in absurd (omega arith)

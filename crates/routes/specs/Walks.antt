@@ -4,7 +4,7 @@ use Rattle.definitions.specs.declared.Link.{Link}
 use Rattle.definitions.specs.declared.Failure.{Failure}
 use Rattle.definitions.specs.Networks.{Net, place, failed}
 use Rattle.definitions.specs.Measures.{Scale}
-use Rattle.routes.specs.declared.record.NodeRecord.{NodeRecord}
+use Rattle.frontier.specs.declared.record.NodeRecord.{NodeRecord}
 use Rattle.routes.specs.declared.walk.NoRoom.{NoRoom}
 use Rattle.routes.specs.Records.{Leads, steps_of, next_of}
 

@@ -1,19 +1,18 @@
-// The search for the best values, by recovery values that are given or by plain values.
-ghost use Rattle.std.specs.Prelude.{◌≡◌, ◌+◌, ◌<◌, ◌≤◌, length, Some, None, MatchBool, slice_set};
+// The search for the best values.
+ghost use Rattle.std.specs.Prelude.{◌≡◌, ◌+◌, ◌<◌, ◌≤◌, length, Some, None, slice_set};
 ghost use Rattle.definitions.specs.Networks.{place};
-ghost use Rattle.definitions.specs.Searches.{given, Labels};
-ghost use Rattle.search.specs.Answers.{PlainValues};
+ghost use Rattle.definitions.specs.Searches.{Labels};
 ghost use Rattle.heap.specs.Heaps.{Heaped};
 ghost use Rattle.heap.specs.Holds.{held, capacity};
 ghost use Rattle.frontier.specs.Orders.{ValueBefore};
-ghost use Rattle.frontier.specs.Indexes.{Indexed};
-ghost use Rattle.frontier.specs.Offers.{Fitting, made, Offered};
-ghost use Rattle.frontier.specs.Progress.{Offering, links_into, links_open};
+ghost use Rattle.frontier.specs.Offers.{made, Offered};
+ghost use Rattle.frontier.specs.Progress.{Offering, links_open};
+ghost use Rattle.frontier.specs.Records.{value_of, values_in, Unreached};
 
-use crate::workspace::Workspace;
+use crate::graph::{Graph, record_at};
 use frontier::entries::{ByValue, Candidate};
-use frontier::index::{Index, index_links};
 use frontier::lists::at;
+use frontier::record::NodeRecord;
 use heap::Heap;
 use measures::Measure;
 use networks::network::Network;
@@ -23,9 +22,7 @@ use networks::network::Network;
 pub(crate) fn link_value<M: Measure>(recovery: Option<u64>, figure: u32, value: u64) -> Option<u64>
     ensures { result ≡ made M.Measure.scale recovery figure value }
 {
-    let Some(recovery) = recovery else {
-        return None;
-    };
+    let recovery = recovery?;
     let extended = M::extend(value, figure);
     if M::no_worse(recovery, extended) {
         Some(extended)
@@ -34,130 +31,68 @@ pub(crate) fn link_value<M: Measure>(recovery: Option<u64>, figure: u32, value: 
     }
 }
 
-// The entry that place k offers, now that `from` has its value: a link into it, from a node without one.
-fn offer<N: Network, M: Measure>(
-    network: &N,
-    recoveries: &[Option<u64>],
-    values: &[Option<u64>],
-    from: Candidate,
-    k: usize,
-) -> Option<Candidate>
-    ensures { Offered (given M.Measure.scale (place recoveries.now)) (N.Network.meaning network.now) (place values.now) from k result }
-{
-    let Some(link) = network.place(k) else {
-        return None;
-    };
-    if link.head != from.node {
-        return None;
-    }
-    if at(values, usize::from(link.tail)).is_some() {
-        return None;
-    }
-    let Some(value) = link_value::<M>(at(recoveries, k), link.figure, from.value) else {
-        return None;
-    };
-    Some(Candidate {
-        value,
-        node: link.tail,
-    })
-}
+impl<'a, N: Network, M: Measure> Graph<'a, N, M> {
+    ghost use Rattle.search.specs.Graphs.{net_of, valuation_of};
 
-// Offers every link into a node that has just got its value.
-fn offer_links<N: Network, M: Measure>(
-    network: &N,
-    index: &Index,
-    recoveries: &[Option<u64>],
-    values: &[Option<u64>],
-    from: Candidate,
-    heap: &mut Heap<Candidate>,
-)
-    requires indexed { Indexed (N.Network.meaning network.now) (place index.now.first) (place index.now.next) }
-    requires fitting { Fitting (N.Network.meaning network.now) (place recoveries.now) }
-    requires order { Heaped (ValueBefore M.Measure.scale) (held heap.old) }
-    requires room { length (held heap.old) + links_into (N.Network.meaning network.now) from.node (length (N.Network.meaning network.now).places) ≤ capacity heap.old }
-    ensures { Offering M.Measure.scale (place recoveries.now) (N.Network.meaning network.now) (place values.now) from heap.old heap.new 0 }
-{
-    for k in index.links_into(from.node) {
-        if let Some(entry) = offer::<N, M>(network, recoveries, values, from, k) {
-            let _ = heap.push::<ByValue<M>>(entry);
+    // The entry that place k offers, now that `from` has its value: a link into it, from a node without one.
+    fn offer(&self, records: &[NodeRecord], from: Candidate, k: usize) -> Option<Candidate>
+        ensures { Offered (valuation_of self.now) (net_of self.now) (value_of records.now) from k result }
+    {
+        let link = self.network.place(k)?;
+        if link.head != from.node || record_at(records, link.tail).value.is_some() {
+            return None;
+        }
+        let value = link_value::<M>(at(self.recoveries, k), link.figure, from.value)?;
+        Some(Candidate {
+            value,
+            node: link.tail,
+        })
+    }
+
+    // Gives a node its value, and offers the links into it.
+    fn settle(
+        &self,
+        candidate: Candidate,
+        records: &mut [NodeRecord; 256],
+        heap: &mut Heap<Candidate>,
+    )
+        requires inside { candidate.node < 256 }
+        requires fresh { value_of records.old candidate.node ≡ None }
+        requires order { Heaped (ValueBefore M.Measure.scale) (held heap.old) }
+        requires room { length (held heap.old) + links_open (net_of self.now) (value_of records.old) ≤ capacity heap.old }
+        ensures settled { values_in records.new ≡ slice_set (values_in records.old) candidate.node (Some candidate.value) }
+        ensures offered { Offering M.Measure.scale (place self.now.recoveries.now) (net_of self.now) (value_of records.new) candidate heap.old heap.new 0 }
+        ensures unreached { Unreached records.old → Unreached records.new }
+    {
+        records[usize::from(candidate.node)].value = Some(candidate.value);
+        let offer = |k| self.offer(records, candidate, k);
+        self.offer_links::<_, ByValue<M>, _>(candidate.node, offer, heap);
+    }
+
+    // Finds the best value of every node to the destination t: nodes get their values in order, the best first. No node has
+    // steps or a next link then.
+    pub(crate) fn best_values(
+        &self,
+        t: u16,
+        records: &mut [NodeRecord; 256],
+        entries: &mut [Candidate],
+    )
+        requires inside { t < (net_of self.now).nodes }
+        requires room { length (net_of self.now).places ≤ length entries.old }
+        ensures labels { Labels (valuation_of self.now) (net_of self.now) t (value_of records.new) }
+        ensures unreached { Unreached records.new }
+    {
+        records.fill(NodeRecord::default());
+        let mut heap = Heap::new(entries);
+        let start = Candidate {
+            value: M::starting(),
+            node: t,
+        };
+        self.settle(start, records, &mut heap);
+        while let Some(next) = heap.pop::<ByValue<M>>() {
+            if record_at(records, next.node).value.is_none() {
+                self.settle(next, records, &mut heap);
+            }
         }
     }
-}
-
-// Gives a node its value, and offers the links into it.
-fn settle<N: Network, M: Measure>(
-    network: &N,
-    index: &Index,
-    recoveries: &[Option<u64>],
-    candidate: Candidate,
-    values: &mut [Option<u64>],
-    heap: &mut Heap<Candidate>,
-)
-    requires indexed { Indexed (N.Network.meaning network.now) (place index.now.first) (place index.now.next) }
-    requires fitting { Fitting (N.Network.meaning network.now) (place recoveries.now) }
-    requires inside { candidate.node < length values.old }
-    requires fresh { place values.old candidate.node ≡ None }
-    requires order { Heaped (ValueBefore M.Measure.scale) (held heap.old) }
-    requires room { length (held heap.old) + links_open (N.Network.meaning network.now) (place values.old) ≤ capacity heap.old }
-    ensures settled { values.new ≡ slice_set values.old candidate.node (Some candidate.value) }
-    ensures offered { Offering M.Measure.scale (place recoveries.now) (N.Network.meaning network.now) (place values.new) candidate heap.old heap.new 0 }
-{
-    values[usize::from(candidate.node)] = Some(candidate.value);
-    offer_links::<N, M>(network, index, recoveries, values, candidate, heap);
-}
-
-// Finds the best value of every node to the destination t, by the recovery values that are given: nodes get
-// their values in order, the best first.
-pub(crate) fn best_values<N: Network, M: Measure>(
-    network: &N,
-    index: &Index,
-    recoveries: &[Option<u64>],
-    t: u16,
-    values: &mut [Option<u64>],
-    entries: &mut [Candidate],
-)
-    requires indexed { Indexed (N.Network.meaning network.now) (place index.now.first) (place index.now.next) }
-    requires fitting { Fitting (N.Network.meaning network.now) (place recoveries.now) }
-    requires inside { t < length values.old }
-    requires nodes { (N.Network.meaning network.now).nodes ≤ length values.old }
-    requires room { length (N.Network.meaning network.now).places ≤ length entries.old }
-    ensures { Labels (given M.Measure.scale (place recoveries.now)) (N.Network.meaning network.now) t (place values.new) }
-{
-    values.fill(None);
-    let mut heap = Heap::new(entries);
-    let start = Candidate {
-        value: M::starting(),
-        node: t,
-    };
-    settle::<N, M>(network, index, recoveries, start, values, &mut heap);
-    while let Some(next) = heap.pop::<ByValue<M>>() {
-        if at(values, usize::from(next.node)).is_none() {
-            settle::<N, M>(network, index, recoveries, next, values, &mut heap);
-        }
-    }
-}
-
-// Finds the best plain value of every node to t; false, and the values unchanged, where t is no node.
-pub fn plain_values<N: Network, M: Measure>(
-    network: &N,
-    t: u16,
-    values: &mut [Option<u64>; 256],
-    workspace: &mut Workspace,
-) -> bool
-    ensures { MatchBool result (PlainValues M.Measure.scale (N.Network.meaning network.now) t values.new) (((N.Network.meaning network.now).nodes ≤ t) × (values.new ≡ values.old)) }
-{
-    if usize::from(t) >= network.node_count() {
-        return false;
-    }
-    index_links(network, &mut workspace.index);
-    workspace.starts.fill(Some(M::starting()));
-    best_values::<N, M>(
-        network,
-        &workspace.index,
-        &workspace.starts,
-        t,
-        values,
-        &mut workspace.candidates,
-    );
-    true
 }

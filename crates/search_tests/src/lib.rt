@@ -5,12 +5,14 @@
 mod tests {
     use definitions::Link;
     use frontier::lists::at;
+    use frontier::record::NodeRecord;
     use measures::{Delay, Measure, Width};
-    use networks::draft::{Book, Draft, DraftFault};
+    use networks::draft::{Book, Draft};
     use search::tables::{
-        Tables, Workspace, plain_tables, plain_values, recovery_values, worst_tables,
+        NoDestination, Workspace, plain_tables, plain_values, recovery_values, worst_tables,
     };
     use std::alloc::Global;
+    use std::fmt::Debug;
     use std::process::Abort;
     use std::test::Fail;
 
@@ -28,8 +30,8 @@ mod tests {
     fn network(heap: Global, nodes: usize, links: &[Link]) -> Result<Book, Fail> {
         let mut draft = Draft::new(heap);
         draft.size(nodes)?;
-        for k in 0..links.len() {
-            draft.add(links[k])?;
+        for link in links {
+            draft.add(*link)?;
         }
         Ok(draft.close())
     }
@@ -62,34 +64,50 @@ mod tests {
         )
     }
 
-    // The values of the first nodes or places are these, and the one after them has none.
-    fn values_are(rt: &impl Abort, values: &[Option<u64>], expected: &[Option<u64>]) {
-        for k in 0..expected.len() {
-            assert_eq!(rt; at(values, k), expected[k]);
+    // The first items are these, and the one after them is none.
+    fn items_are<T: Copy + PartialEq + Debug, F: Fn(usize) -> Option<T>>(
+        rt: &impl Abort,
+        item: F,
+        expected: &[Option<T>],
+    )
+        requires { F.IsAlwaysCallable item }
+    {
+        for (k, wanted) in expected.iter().enumerate() {
+            assert_eq!(rt; item(k), *wanted);
         }
-        assert_eq!(rt; at(values, expected.len()), None);
+        assert_eq!(rt; item(expected.len()), None);
     }
 
-    // The same of steps and of next links.
-    fn numbers_are(rt: &impl Abort, numbers: &[Option<u16>], expected: &[Option<u16>]) {
-        for k in 0..expected.len() {
-            assert_eq!(rt; at(numbers, k), expected[k]);
-        }
-        assert_eq!(rt; at(numbers, expected.len()), None);
+    // The values of the first nodes are these, and the one after them has none.
+    fn values_are(rt: &impl Abort, records: &[NodeRecord], expected: &[Option<u64>]) {
+        items_are(rt, |k| records.get(k)?.value, expected);
+    }
+
+    // The same of steps, of next links, and of the recovery values of places.
+    fn steps_are(rt: &impl Abort, records: &[NodeRecord], expected: &[Option<u16>]) {
+        items_are(rt, |k| records.get(k)?.steps, expected);
+    }
+
+    fn nexts_are(rt: &impl Abort, records: &[NodeRecord], expected: &[Option<u16>]) {
+        items_are(rt, |k| records.get(k)?.next, expected);
+    }
+
+    fn recoveries_are(rt: &impl Abort, recoveries: &[Option<u64>], expected: &[Option<u64>]) {
+        items_are(rt, |k| at(recoveries, k), expected);
     }
 
     #[test]
     fn example_by_plain_delay(rt: HostRuntime) -> Result<(), Fail> {
         let book = example(rt.alloc(), 0)?;
         let mut workspace = Workspace::new();
-        let mut values = [None; 256];
-        assert!(rt; plain_values::<Book, Delay>(&book, 3, &mut values, &mut workspace));
-        values_are(&rt, &values, &[Some(5), Some(3), Some(4), Some(0)]);
-        let mut tables = Tables::new();
-        assert!(rt; plain_tables::<Book, Delay>(&book, 3, &mut tables, &mut workspace));
-        values_are(&rt, &tables.values, &[Some(5), Some(3), Some(4), Some(0)]);
-        numbers_are(&rt, &tables.steps, &[Some(2), Some(1), Some(1), Some(0)]);
-        numbers_are(&rt, &tables.nexts, &[Some(0), Some(1), Some(3), None]);
+        let mut records = [NodeRecord::default(); 256];
+        plain_values::<Book, Delay>(&book, 3, &mut records, &mut workspace)?;
+        values_are(&rt, &records, &[Some(5), Some(3), Some(4), Some(0)]);
+        let mut records = [NodeRecord::default(); 256];
+        plain_tables::<Book, Delay>(&book, 3, &mut records, &mut workspace)?;
+        values_are(&rt, &records, &[Some(5), Some(3), Some(4), Some(0)]);
+        steps_are(&rt, &records, &[Some(2), Some(1), Some(1), Some(0)]);
+        nexts_are(&rt, &records, &[Some(0), Some(1), Some(3), None]);
         Ok(())
     }
 
@@ -98,18 +116,16 @@ mod tests {
         let book = example(rt.alloc(), 0)?;
         let mut workspace = Workspace::new();
         let mut recoveries = [None; 1024];
-        let mut tables = Tables::new();
-        assert!(rt;
-            worst_tables::<Book, Delay>(&book, 3, &mut recoveries, &mut tables, &mut workspace)
-        );
-        values_are(
+        let mut records = [NodeRecord::default(); 256];
+        worst_tables::<Book, Delay>(&book, 3, &mut recoveries, &mut records, &mut workspace)?;
+        recoveries_are(
             &rt,
             &recoveries,
             &[Some(9), Some(13), Some(3), Some(5), Some(5), Some(4)],
         );
-        values_are(&rt, &tables.values, &[Some(10), Some(13), Some(5), Some(0)]);
-        numbers_are(&rt, &tables.steps, &[Some(2), Some(1), Some(1), Some(0)]);
-        numbers_are(&rt, &tables.nexts, &[Some(4), Some(1), Some(3), None]);
+        values_are(&rt, &records, &[Some(10), Some(13), Some(5), Some(0)]);
+        steps_are(&rt, &records, &[Some(2), Some(1), Some(1), Some(0)]);
+        nexts_are(&rt, &records, &[Some(4), Some(1), Some(3), None]);
         Ok(())
     }
 
@@ -118,21 +134,19 @@ mod tests {
         let book = example(rt.alloc(), 0)?;
         let mut workspace = Workspace::new();
         let mut recoveries = [None; 1024];
-        let mut tables = Tables::new();
-        assert!(rt;
-            worst_tables::<Book, Width>(&book, 3, &mut recoveries, &mut tables, &mut workspace)
-        );
-        values_are(
+        let mut records = [NodeRecord::default(); 256];
+        worst_tables::<Book, Width>(&book, 3, &mut recoveries, &mut records, &mut workspace)?;
+        recoveries_are(
             &rt,
             &recoveries,
             &[Some(4), Some(4), Some(3), Some(2), Some(2), Some(4)],
         );
         values_are(
             &rt,
-            &tables.values,
+            &records,
             &[Some(2), Some(3), Some(2), Some(4_294_967_295)],
         );
-        numbers_are(&rt, &tables.nexts, &[Some(0), Some(1), Some(3), None]);
+        nexts_are(&rt, &records, &[Some(0), Some(1), Some(3), None]);
         Ok(())
     }
 
@@ -141,19 +155,17 @@ mod tests {
         let book = example(rt.alloc(), 1)?;
         let mut workspace = Workspace::new();
         let mut recoveries = [Some(7); 1024];
-        assert!(rt; recovery_values::<Book, Delay>(&book, 3, &mut recoveries, &mut workspace));
-        values_are(
+        recovery_values::<Book, Delay>(&book, 3, &mut recoveries, &mut workspace)?;
+        recoveries_are(
             &rt,
             &recoveries,
             &[Some(9), None, Some(3), None, Some(5), Some(4)],
         );
-        let mut tables = Tables::new();
-        assert!(rt;
-            worst_tables::<Book, Delay>(&book, 3, &mut recoveries, &mut tables, &mut workspace)
-        );
-        values_are(&rt, &tables.values, &[None, None, None, Some(0)]);
-        numbers_are(&rt, &tables.steps, &[None, None, None, Some(0)]);
-        numbers_are(&rt, &tables.nexts, &[None, None, None, None]);
+        let mut records = [NodeRecord::default(); 256];
+        worst_tables::<Book, Delay>(&book, 3, &mut recoveries, &mut records, &mut workspace)?;
+        values_are(&rt, &records, &[None, None, None, Some(0)]);
+        steps_are(&rt, &records, &[None, None, None, Some(0)]);
+        nexts_are(&rt, &records, &[None, None, None, None]);
         Ok(())
     }
 
@@ -162,31 +174,44 @@ mod tests {
         let book = Draft::new(rt.alloc()).close();
         let mut workspace = Workspace::new();
         let mut recoveries = [Some(7); 1024];
-        let mut tables = Tables::new();
-        tables.values[0] = Some(8);
-        assert!(rt; !plain_values::<Book, Delay>(&book, 0, &mut tables.values, &mut workspace));
-        assert!(rt; !plain_tables::<Book, Delay>(&book, 0, &mut tables, &mut workspace));
-        assert!(rt; !recovery_values::<Book, Delay>(&book, 0, &mut recoveries, &mut workspace));
-        assert!(rt;
-            !worst_tables::<Book, Delay>(&book, 0, &mut recoveries, &mut tables, &mut workspace)
+        let mut records = [NodeRecord::default(); 256];
+        records[0].value = Some(8);
+        assert_eq!(rt;
+            plain_values::<Book, Delay>(&book, 0, &mut records, &mut workspace),
+            Err(NoDestination)
+        );
+        assert_eq!(rt;
+            plain_tables::<Book, Delay>(&book, 0, &mut records, &mut workspace),
+            Err(NoDestination)
+        );
+        assert_eq!(rt;
+            recovery_values::<Book, Delay>(&book, 0, &mut recoveries, &mut workspace),
+            Err(NoDestination)
+        );
+        assert_eq!(rt;
+            worst_tables::<Book, Delay>(&book, 0, &mut recoveries, &mut records, &mut workspace),
+            Err(NoDestination)
         );
         assert_eq!(rt; at(&recoveries, 0), Some(7));
-        values_are(&rt, &tables.values, &[Some(8)]);
+        values_are(&rt, &records, &[Some(8)]);
     }
 
     #[test]
     fn no_places_and_one_node(rt: HostRuntime) -> Result<(), Fail> {
         let mut workspace = Workspace::new();
-        let mut tables = Tables::new();
+        let mut records = [NodeRecord::default(); 256];
         let apart = network(rt.alloc(), 2, &[])?;
-        assert!(rt; plain_tables::<Book, Width>(&apart, 1, &mut tables, &mut workspace));
-        values_are(&rt, &tables.values, &[None, Some(4_294_967_295)]);
-        assert!(rt; !plain_tables::<Book, Width>(&apart, 2, &mut tables, &mut workspace));
+        plain_tables::<Book, Width>(&apart, 1, &mut records, &mut workspace)?;
+        values_are(&rt, &records, &[None, Some(4_294_967_295)]);
+        assert_eq!(rt;
+            plain_tables::<Book, Width>(&apart, 2, &mut records, &mut workspace),
+            Err(NoDestination)
+        );
         let alone = network(rt.alloc(), 1, &[])?;
-        assert!(rt; plain_tables::<Book, Delay>(&alone, 0, &mut tables, &mut workspace));
-        values_are(&rt, &tables.values, &[Some(0)]);
-        numbers_are(&rt, &tables.steps, &[Some(0)]);
-        numbers_are(&rt, &tables.nexts, &[None]);
+        plain_tables::<Book, Delay>(&alone, 0, &mut records, &mut workspace)?;
+        values_are(&rt, &records, &[Some(0)]);
+        steps_are(&rt, &records, &[Some(0)]);
+        nexts_are(&rt, &records, &[None]);
         Ok(())
     }
 
@@ -199,13 +224,11 @@ mod tests {
         )?;
         let mut workspace = Workspace::new();
         let mut recoveries = [None; 1024];
-        let mut tables = Tables::new();
-        assert!(rt;
-            worst_tables::<Book, Delay>(&book, 1, &mut recoveries, &mut tables, &mut workspace)
-        );
-        values_are(&rt, &recoveries, &[Some(5), Some(5), Some(5)]);
-        values_are(&rt, &tables.values, &[Some(5), Some(0)]);
-        numbers_are(&rt, &tables.nexts, &[Some(1), None]);
+        let mut records = [NodeRecord::default(); 256];
+        worst_tables::<Book, Delay>(&book, 1, &mut recoveries, &mut records, &mut workspace)?;
+        recoveries_are(&rt, &recoveries, &[Some(5), Some(5), Some(5)]);
+        values_are(&rt, &records, &[Some(5), Some(0)]);
+        nexts_are(&rt, &records, &[Some(1), None]);
         Ok(())
     }
 
@@ -221,11 +244,11 @@ mod tests {
         ];
         let book = network(rt.alloc(), 4, &links)?;
         let mut workspace = Workspace::new();
-        let mut tables = Tables::new();
-        assert!(rt; plain_tables::<Book, Delay>(&book, 3, &mut tables, &mut workspace));
-        values_are(&rt, &tables.values, &[Some(0), Some(0), Some(0), Some(0)]);
-        numbers_are(&rt, &tables.steps, &[Some(1), Some(2), Some(1), Some(0)]);
-        numbers_are(&rt, &tables.nexts, &[Some(5), Some(1), Some(4), None]);
+        let mut records = [NodeRecord::default(); 256];
+        plain_tables::<Book, Delay>(&book, 3, &mut records, &mut workspace)?;
+        values_are(&rt, &records, &[Some(0), Some(0), Some(0), Some(0)]);
+        steps_are(&rt, &records, &[Some(1), Some(2), Some(1), Some(0)]);
+        nexts_are(&rt, &records, &[Some(5), Some(1), Some(4), None]);
         Ok(())
     }
 
@@ -234,15 +257,15 @@ mod tests {
         let links = [link(0, 1, 7), link(1, 2, 7), link(2, 3, 7), link(0, 2, 7)];
         let book = network(rt.alloc(), 4, &links)?;
         let mut workspace = Workspace::new();
-        let mut tables = Tables::new();
-        assert!(rt; plain_tables::<Book, Width>(&book, 3, &mut tables, &mut workspace));
+        let mut records = [NodeRecord::default(); 256];
+        plain_tables::<Book, Width>(&book, 3, &mut records, &mut workspace)?;
         values_are(
             &rt,
-            &tables.values,
+            &records,
             &[Some(7), Some(7), Some(7), Some(4_294_967_295)],
         );
-        numbers_are(&rt, &tables.steps, &[Some(2), Some(2), Some(1), Some(0)]);
-        numbers_are(&rt, &tables.nexts, &[Some(3), Some(1), Some(2), None]);
+        steps_are(&rt, &records, &[Some(2), Some(2), Some(1), Some(0)]);
+        nexts_are(&rt, &records, &[Some(3), Some(1), Some(2), None]);
         Ok(())
     }
 
@@ -255,13 +278,13 @@ mod tests {
         }
         let book = draft.close();
         let mut workspace = Workspace::new();
-        let mut tables = Tables::new();
-        assert!(rt; plain_tables::<Book, Delay>(&book, 255, &mut tables, &mut workspace));
-        assert_eq!(rt; at(&tables.values, 0), Some(1_095_216_660_225));
-        assert_eq!(rt; at(&tables.steps, 0), Some(255));
-        assert_eq!(rt; at(&tables.nexts, 254), Some(254));
-        assert!(rt; plain_tables::<Book, Width>(&book, 255, &mut tables, &mut workspace));
-        assert_eq!(rt; at(&tables.values, 0), Some(4_294_967_295));
+        let mut records = [NodeRecord::default(); 256];
+        plain_tables::<Book, Delay>(&book, 255, &mut records, &mut workspace)?;
+        assert_eq!(rt; records[0].value, Some(1_095_216_660_225));
+        assert_eq!(rt; records[0].steps, Some(255));
+        assert_eq!(rt; records[254].next, Some(254));
+        plain_tables::<Book, Width>(&book, 255, &mut records, &mut workspace)?;
+        assert_eq!(rt; records[0].value, Some(4_294_967_295));
         Ok(())
     }
 

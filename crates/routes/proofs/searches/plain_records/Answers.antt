@@ -1,16 +1,24 @@
-use Rattle.std.proofs.Common.{◌≡◌, ◌<◌, length, refl, inl, arith}
+use Rattle.std.proofs.Common.{rules, ◌≡◌, ◌<◌, length, subst}
 use Rattle.definitions.specs.Plans.{plain}
-use Rattle.routes.proofs.Copying.{recorded}
+use Rattle.routes.specs.Records.{Recorded}
 use Rattle.routes.proofs.searches.plain_records.Goals as goal
 
-pub write_records-requires : goal.write_records-requires
-write_records-requires g c = record { records = omega arith; values = omega arith; steps = omega arith; nexts = omega arith }
+pub returns-in_err-t : goal.returns-in_err-t
+returns-in_err-t g c = record { found = search rules; count = search rules; destination = search rules; refused = search rules }
+
+pub returns-in_err-plain_tables : goal.returns-in_err-plain_tables
+returns-in_err-plain_tables g c = record { found = search rules; count = search rules; destination = search rules; refused = search rules }
 
 pub returns : goal.returns
 returns g c =
     let net = g.N.Network.meaning c.args.network.now in
-    let t = c.args.destination in
-    let found = c.if-not-plain_tables.ensures in
-    let lt : t < net.nodes = omega (arith, c.node_count.ensures, c.if-destination-node_count.false) in
-    let all : length c.args.records.now ≡ 256 = omega arith in
-    inl (lt, all, refl, recorded _ _ _ (plain g.M.Measure.scale) net t _ found.labels found.nexts c.write_records.ensures)
+    let found = c.in_ok-plain_tables.ensures.found in
+    let same : c.in_ok-t.t ≡ c.args.destination = search rules in
+    let all : length c.args.records.now ≡ 256 = search rules in
+    record {
+      found = subst (λ t. (t < net.nodes) × (length c.args.records.now ≡ 256) × Recorded (plain g.M.Measure.scale) net t c.plain_tables.new.records) same
+          (found.inside, all, record { labels = found.labels; links = found.nexts });
+      count = search rules;
+      destination = search rules;
+      refused = search rules;
+    }

@@ -1,22 +1,24 @@
-use Rattle.std.proofs.Common.{◌≡◌, ◌<◌, length, refl, inl, arith}
+use Rattle.std.proofs.Common.{rules, ◌≡◌, ◌<◌, length, subst}
 use Rattle.definitions.specs.Plans.{worst}
-use Rattle.routes.proofs.Copying.{recorded}
+use Rattle.routes.specs.Records.{Recorded}
 use Rattle.routes.proofs.searches.worst_records.Goals as goal
 
-pub write_records-requires : goal.write_records-requires
-write_records-requires g c = record { records = omega arith; values = omega arith; steps = omega arith; nexts = omega arith }
+pub returns-in_err-t : goal.returns-in_err-t
+returns-in_err-t g c = record { found = search rules; count = search rules; destination = search rules; refused = search rules }
+
+pub returns-in_err-worst_tables : goal.returns-in_err-worst_tables
+returns-in_err-worst_tables g c = record { found = search rules; count = search rules; destination = search rules; refused = search rules }
 
 pub returns : goal.returns
 returns g c =
     let net = g.N.Network.meaning c.args.network.now in
-    let t = c.args.destination in
-    let found = c.if-not-worst_tables.ensures in
-    let lt : t < net.nodes = omega (arith, c.node_count.ensures, c.if-destination-node_count.false) in
-    let all : length c.args.records.now ≡ 256 = omega arith in
-    inl (lt, all, refl, recorded _ _ _ (worst g.M.Measure.scale net t) net t _ found.labels found.nexts c.write_records.ensures)
-
--- The search refuses only a destination that is no node.
-pub returns-then-not-worst_tables : goal.returns-then-not-worst_tables
-returns-then-not-worst_tables g c =
-    let no = c.if-not-worst_tables.ensures in
-    absurd (omega (arith, no.0, c.node_count.ensures, c.if-destination-node_count.false))
+    let found = c.in_ok-worst_tables.ensures.found in
+    let same : c.in_ok-t.t ≡ c.args.destination = search rules in
+    let all : length c.args.records.now ≡ 256 = search rules in
+    record {
+      found = subst (λ t. (t < net.nodes) × (length c.args.records.now ≡ 256) × Recorded (worst g.M.Measure.scale net t) net t c.worst_tables.new.records) same
+          (found.recovered.inside, all, record { labels = found.labels; links = found.nexts });
+      count = search rules;
+      destination = search rules;
+      refused = search rules;
+    }

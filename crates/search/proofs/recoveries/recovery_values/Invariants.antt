@@ -1,14 +1,16 @@
-use Rattle.std.proofs.Common.{◌≡◌, ℕ, ◌<◌, length, None}
+use Rattle.std.proofs.Common.{◌≡◌, ℕ, ◌<◌, length, None, Option}
 use Rattle.definitions.specs.declared.Link.{Link}
-use Rattle.definitions.specs.Networks.{Holds, place, at_risk}
+use Rattle.definitions.specs.Measures.{Scale}
+use Rattle.definitions.specs.Networks.{Net, Holds, place, at_risk}
 use Rattle.definitions.specs.Routes.{BestIs}
 use Rattle.definitions.specs.Plans.{plain}
 use Rattle.search.proofs.recoveries.recovery_values.Given as goal
 
--- the links below k have their recovery values, and no empty place has one
+-- x is the recovery value of place j
+abbrev pub Recovers : Scale → Net → ℕ → ℕ → Option ℕ → Type 0
+Recovers m net t j x = ((l : Link) → Holds net j l → BestIs (plain m) (at_risk j net) t l.tail x) × (place net.places j ≡ None → x ≡ None)
+
+-- the places below k have their recovery values
 abbrev pub invariant-loop-k : goal.invariant-loop-k
 invariant-loop-k g l =
-    ((j : ℕ) (i : Link) → j < l.k → Holds (g.N.Network.meaning l.network) j i
-    → BestIs (plain g.M.Measure.scale) (at_risk j (g.N.Network.meaning l.network)) l.t i.tail (place l.recoveries j))
-    × ((j : ℕ) → place (g.N.Network.meaning l.network).places j ≡ None → place l.recoveries j ≡ None)
-    × (length l.recoveries ≡ 1024)
+    ((j : ℕ) → j < l.k → Recovers g.M.Measure.scale (g.N.Network.meaning l.network) l.t j (place l.recoveries j)) × (length l.recoveries ≡ 1024)
