@@ -57,8 +57,8 @@ impl From<ConsoleFault> for FaultCode {
     fn from(fault: ConsoleFault) -> FaultCode {
         match fault.cause {
             Cause::Line(carried) => FaultCode::from(carried),
-            Cause::Map(carried) => carried.code(),
-            Cause::Planner(carried) => FaultCode::from(*carried),
+            Cause::Map(carried) => FaultCode::from(carried),
+            Cause::Planner(carried) => FaultCode::from(carried),
         }
     }
 }
