@@ -1,9 +1,8 @@
 -- What the records say of the nodes, as functions and as lists.
-use Rattle.std.proofs.Common.{◌≡◌, ℕ, zero, suc, replicate, refl, true, false, is_some, ◌+◌, ◌<◌, ◌≤◌, List, length, set, map, get_or, Some, None, Option, sym, ap, ◌∙◌, subst, subst₂, arith}
+use Rattle.std.proofs.Common.{◌≡◌, ℕ, zero, suc, replicate, refl, true, false, is_some, ◌<◌, ◌≤◌, List, length, set, get_or, Some, None, Option, sym, ap, ◌∙◌, subst, subst₂, arith}
 use mathlib.Core.Path.{fun_ext}
 use native.Mathlib.Decide.{ℕ_discrete}
 use Rattle.std.proofs.Math.ListN.{get_or-map}
-use Rattle.std.proofs.Math.Seq.{map-set_same}
 use Rattle.std.proofs.lemmas.List.{map-set, length-map, get_or-set_same, get_or-set_other}
 use Rattle.definitions.specs.Networks.{Net, place}
 use Rattle.definitions.specs.Measures.{Scale}

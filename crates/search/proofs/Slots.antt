@@ -1,5 +1,5 @@
 -- A list whose slots are written one after the other.
-use Rattle.std.proofs.Common.{◌≡◌, ℕ, ◌+◌, ◌<◌, List, length, set, None, Option, sym, ap, ◌∙◌, subst, arith}
+use Rattle.std.proofs.Common.{ℕ, ◌+◌, ◌<◌, List, length, set, None, Option, sym, subst, arith}
 use native.Mathlib.Decide.{ℕ_discrete}
 use Rattle.definitions.specs.Networks.{place}
 use Rattle.std.proofs.lemmas.List.{get_or-set_same, get_or-set_other}

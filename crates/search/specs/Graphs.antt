@@ -1,5 +1,4 @@
 -- What a graph stands for.
-use Rattle.std.specs.Prelude.{ℕ}
 use Rattle.definitions.specs.Networks.{Net, place}
 use Rattle.definitions.specs.Routes.{Valuation}
 use Rattle.definitions.specs.Searches.{given}

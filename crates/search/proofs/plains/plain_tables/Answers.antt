@@ -1,4 +1,4 @@
-use Rattle.std.proofs.Common.{◌≡◌, ◌<◌, sym, refl, ap, subst, arith}
+use Rattle.std.proofs.Common.{◌<◌, sym, refl, subst, arith}
 use Rattle.frontier.proofs.Plains.{plain_found, plain_best, plain_next}
 use Rattle.search.specs.Answers.{PlainTables}
 use Rattle.search.proofs.plains.plain_tables.Goals as goal

@@ -1,4 +1,4 @@
-use Rattle.std.proofs.Common.{◌≡◌, ◌<◌, sym, refl, ap, subst, arith}
+use Rattle.std.proofs.Common.{◌<◌, sym, refl, subst, arith}
 use Rattle.frontier.proofs.Plains.{plain_found, plain_best}
 use Rattle.search.specs.Answers.{PlainValues}
 use Rattle.search.proofs.plains.plain_values.Goals as goal

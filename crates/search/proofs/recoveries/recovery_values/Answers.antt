@@ -1,4 +1,4 @@
-use Rattle.std.proofs.Common.{◌<◌, ◌∙◌, ⊎_elim, arith, length-set}
+use Rattle.std.proofs.Common.{◌∙◌, ⊎_elim, arith, length-set}
 use Rattle.std.proofs.lemmas.Bool.{cases_lt}
 use Rattle.definitions.proofs.Layers.{place_past}
 use Rattle.frontier.proofs.Offering.{holds_inside}

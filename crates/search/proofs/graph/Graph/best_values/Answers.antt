@@ -1,14 +1,11 @@
 use Rattle.std.proofs.Common.{◌≡◌, ◌≤◌, length, replicate, rules, sym, ap, ◌∙◌, subst, arith}
-use Rattle.std.proofs.lemmas.List.{length-map}
 use Rattle.std.proofs.lemmas.List.Sorted.{length_permutation}
-use Rattle.definitions.specs.Networks.{place}
 use Rattle.definitions.specs.Searches.{Labels}
 use Rattle.heap.specs.Holds.{held}
 use Rattle.heap.proofs.Held.{heaped_none}
 use Rattle.frontier.specs.Progress.{leads_on, links_open}
-use Rattle.frontier.specs.Records.{blank, value_of, steps_of, next_of, values_in}
+use Rattle.frontier.specs.Records.{blank, value_of, values_in}
 use Rattle.std.proofs.lemmas.List.Sums.{count_by-le-length}
-use Rattle.frontier.proofs.Stored.{unset, set_to}
 use Rattle.frontier.proofs.Searching.{searching_start, searching_skip, searching_settle, searching_end, popped_inside, settle_less}
 use Rattle.search.proofs.Columns.{value_list, value_long, value_unset, value_there, cleared, offering_list}
 use Rattle.search.proofs.graph.Graph.best_values.Goals as goal

@@ -1,4 +1,4 @@
-use Rattle.std.proofs.Common.{◌≡◌, ◌≤◌, length, set, None, refl, sym, ap, ◌∙◌, subst₂, arith, length-set}
+use Rattle.std.proofs.Common.{◌≡◌, ◌≤◌, length, refl, sym, ap, ◌∙◌, subst₂, arith, length-set}
 use Rattle.std.proofs.lemmas.List.Sorted.{length_permutation}
 use Rattle.definitions.specs.Networks.{place, Holds}
 use Rattle.definitions.specs.Searches.{Nexts}

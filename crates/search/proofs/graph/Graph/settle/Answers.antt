@@ -1,6 +1,4 @@
-use Rattle.std.proofs.Common.{ℕ, ◌<◌, ◌≤◌, Option, rules, arith}
-use Rattle.frontier.specs.Offers.{Offered}
-use Rattle.frontier.specs.Records.{value_of}
+use Rattle.std.proofs.Common.{rules, arith}
 use Rattle.definitions.specs.Networks.{place}
 use Rattle.search.proofs.Columns.{value_room, values_set}
 use Rattle.search.proofs.Offers.{offering_all}
