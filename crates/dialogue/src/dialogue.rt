@@ -46,6 +46,7 @@ fn try_line<N: Network, M: Measure>(
 }
 
 // What is printed of an outcome, whose places stand in the buffer.
+// Stays a match: a public map over the places would ask its callers that the closure may be called.
 fn answer_of(outcome: Outcome, buffer: &[u16]) -> Answer<&[u16]>
     ensures { answered result ≡ shown outcome buffer.now }
 {

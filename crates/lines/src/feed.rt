@@ -61,6 +61,7 @@ impl Feed {
     }
 
     // Takes a piece of the input, and has the lines answered that end in it.
+    // The text and the responder stay two parameters: the program prints and empties the text between pieces.
     pub fn feed<R: Responder>(
         &mut self,
         piece: &[u8],
@@ -69,6 +70,7 @@ impl Feed {
     ) -> Result<(), AllocError>
         ensures { OnOk result (Added (string_bytes out.old) (string_bytes out.new) (Leads R.Responder.answers R.Responder.ended self.old responder.old piece.now self.new responder.new)) }
     {
+        // Stays a loop: a closure would have to borrow the feed, the text and the responder at once.
         for byte in piece {
             self.feed_byte(*byte, out, responder)?;
         }
