@@ -1,6 +1,5 @@
-use Rattle.std.proofs.Common.{◌≡◌, ◌<◌, false, [], reverse, length, take, sym, refl, ap, ◌∙◌, subst, arith, take_all}
+use Rattle.std.proofs.Common.{◌<◌, false, length, refl, ◌∙◌, arith}
 use Rattle.planner.specs.Planners.{state, network_of}
-use Rattle.histories.specs.Histories.{After, Ran}
 use Rattle.histories.specs.declared.call.Call.TheVariants as call
 use Rattle.histories.specs.declared.call.Event.{Event}
 use Rattle.runs.proofs.Replaying.{replay_more, same_calls}

@@ -1,8 +1,7 @@
-use Rattle.std.proofs.Common.{◌≡◌, ◌+◌, ◌≤◌, true, false, [], length, None, sym, refl, ap, ◌∙◌, subst, inl, inr, arith, length-append}
+use Rattle.std.proofs.Common.{◌≡◌, ◌+◌, ◌≤◌, false, length, sym, ap, ◌∙◌, subst, inl, arith, length-append}
 use Rattle.definitions.specs.Networks.{Holds, place, failed}
 use Rattle.routes.specs.Records.{Leads, next_of}
-use Rattle.routes.specs.Walks.{Blocked}
-use Rattle.routes.proofs.Walking.{nothing_there, goes_on, walk_more}
+use Rattle.routes.proofs.Walking.{walk_more}
 use Rattle.routes.proofs.walk.Walk.turning_point.Goals as goal
 use Rattle.routes.proofs.walk.Walk.turning_point.Goals.{then-at-destination-via-then-at-destination, then-at-destination-via-else-at-destination+then-passed-self}
 

@@ -1,7 +1,7 @@
-use Rattle.std.proofs.Common.{◌≡◌, ℕ, ◌+◌, List, ◌++◌, take, set, None, sym, refl, ap, ◌∙◌, subst, arith, take_all}
+use Rattle.std.proofs.Common.{◌≡◌, ℕ, ◌+◌, List, ◌++◌, take, set, None, sym, ap, ◌∙◌, subst, arith}
 use Rattle.definitions.specs.Networks.{Holds, place}
 use Rattle.routes.specs.Records.{Leads, next_of}
-use Rattle.routes.proofs.Walking.{nothing_there, more_to_write, wrote_more, wrote_all}
+use Rattle.routes.proofs.Walking.{nothing_there, more_to_write, wrote_more}
 use Rattle.routes.proofs.walk.Walk.write_places.Goals as goal
 
 pub returns-in_default : goal.returns-in_default
