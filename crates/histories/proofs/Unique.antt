@@ -11,13 +11,13 @@ use Rattle.definitions.specs.Networks.{Net, Holds, Limits, without}
 use Rattle.definitions.specs.Measures.{Scale, Laws, worse}
 use Rattle.definitions.specs.Routes.{Valuation, Best, Tight}
 use Rattle.definitions.specs.Plans.{worst, Recovery}
-use Rattle.definitions.specs.Searches.{LabelChain, Labels, Nexts}
+use Rattle.definitions.specs.Searches.{Labels, Nexts}
 use Rattle.definitions.proofs.Fixpoint.{Lawful, best_one}
 use Rattle.definitions.proofs.Layers.{same_link, without_limits}
 use Rattle.definitions.proofs.Lawfuls.{Value, recovery_one, worst_lawful}
 use Rattle.definitions.proofs.Props.{best_prop}
 use Rattle.frontier.specs.declared.record.NodeRecord.{NodeRecord}
-use Rattle.routes.specs.Records.{Recorded, value_of, steps_of, next_of}
+use Rattle.routes.specs.Records.{value_of, steps_of, next_of}
 use Rattle.histories.specs.State.{PlanRight}
 
 ℕ_set : IsSet ℕ

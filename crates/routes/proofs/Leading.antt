@@ -4,7 +4,7 @@ use native.Mathlib.Decide.{ℕ_discrete}
 use Rattle.definitions.specs.declared.Link.{Link}
 use Rattle.definitions.specs.Networks.{Net, Limits, risks, at_risk}
 use Rattle.definitions.specs.Measures.{Scale, Laws}
-use Rattle.definitions.specs.Routes.{Valuation, Best, Next, Held}
+use Rattle.definitions.specs.Routes.{Valuation, Next, Held}
 use Rattle.definitions.specs.Plans.{plain, worst, Backup}
 use Rattle.definitions.proofs.Fixpoint.{Lawful, best_label}
 use Rattle.definitions.proofs.Following.{next_label, value_steps}

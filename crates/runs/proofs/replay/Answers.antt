@@ -1,16 +1,9 @@
-use Rattle.std.proofs.Common.{◌≡◌, ◌<◌, false, [], reverse, length, take, sym, refl, ap, ◌∙◌, subst, arith, take_all}
+use Rattle.std.proofs.Common.{◌<◌, false, length, refl, ◌∙◌, arith}
 use Rattle.planner.specs.Planners.{state, network_of}
-use Rattle.histories.specs.Histories.{After, Ran}
 use Rattle.histories.specs.declared.call.Call.TheVariants as call
 use Rattle.histories.specs.declared.call.Event.{Event}
 use Rattle.runs.proofs.Replaying.{replay_more, same_calls}
 use Rattle.runs.proofs.replay.Goals as goal
-
-pub loop-event-init : goal.loop-event-init
-loop-event-init g c =
-    let p = c.in_ok-planner.planner in
-    let new = c.in_ok-planner.ensures in
-    (tt, subst (λ x. After g.M.Measure.scale (g.N.Network.meaning x) [] (state g.N.Network.meaning p)) (sym new.0) new.2, refl, refl)
 
 pub loop-event-preserved : goal.loop-event-preserved
 loop-event-preserved g c =
@@ -21,16 +14,3 @@ loop-event-preserved g c =
     let lt : i < length xs = omega arith in
     let next = replay_more g.M.Measure.scale n xs i _ c.perform-event.result (state g.N.Network.meaning c.loop-event.planner) _ lt c.perform-event.ensures.follows c.loop-event.invariant.0 c.loop-event.invariant.1 in
     (next.0, next.1, same_calls xs i _ d refl ∙ c.loop-event.invariant.2, c.perform-event.ensures.keeps ∙ c.loop-event.invariant.3)
-
-pub returns : goal.returns
-returns g c =
-    let m = g.M.Measure.scale in
-    let n = g.N.Network.meaning c.args.network in
-    let n₀ = g.N.Network.meaning (network_of c.in_ok-planner.planner) in
-    let xs = c.loop-event.events in
-    let s = state g.N.Network.meaning c.loop-event.planner in
-    let whole : take c.loop-event.event-index xs ≡ xs = take_all _ _ (omega arith) in
-    let same = ap g.N.Network.meaning c.in_ok-planner.ensures.0 in
-    let ran : Ran m n (reverse xs) = subst (λ y. Ran m y (reverse xs)) same (subst (λ y. Ran m n₀ (reverse y)) whole c.loop-event.invariant.0) in
-    let after : After m n (reverse xs) s = subst (λ y. After m y (reverse xs) s) same (subst (λ y. After m n₀ (reverse y) s) whole c.loop-event.invariant.1) in
-    (c.loop-event.invariant.3 ∙ c.in_ok-planner.ensures.0, record { calls = c.loop-event.invariant.2; ran = ran; after = after })

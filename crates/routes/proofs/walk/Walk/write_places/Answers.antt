@@ -1,11 +1,8 @@
-use Rattle.std.proofs.Common.{◌≡◌, ℕ, ◌+◌, List, ◌++◌, take, set, None, sym, refl, ap, ◌∙◌, subst, arith, take_all}
+use Rattle.std.proofs.Common.{◌≡◌, ℕ, ◌+◌, List, ◌++◌, take, set, None, sym, ap, ◌∙◌, subst, arith}
 use Rattle.definitions.specs.Networks.{Holds, place}
 use Rattle.routes.specs.Records.{Leads, next_of}
-use Rattle.routes.proofs.Walking.{nothing_there, more_to_write, wrote_more, wrote_all}
+use Rattle.routes.proofs.Walking.{nothing_there, more_to_write, wrote_more}
 use Rattle.routes.proofs.walk.Walk.write_places.Goals as goal
-
-pub loop-slot-init : goal.loop-slot-init
-loop-slot-init g c e ks P z = (ks, P, refl)
 
 pub returns-in_default : goal.returns-in_default
 returns-in_default g c e ks P z =
@@ -34,10 +31,3 @@ loop-slot-preserved g c =
     let (js, Q, q) = c.loop-slot.invariant e ks P z in
     subst (λ x. (is : List ℕ) × Leads net nx e x is × (take (c.loop-slot.slot-index + 1) (set c.loop-slot.places c.loop-slot.slot-index c.in-Some.k) ++ is ≡ ks)) (sym head)
     (wrote_more net nx e c.loop-slot.at c.loop-slot.slot-index c.in-Some.k c.in-Some-place.link c.loop-slot.places js ks (sym c.in-Some.ensures) h Q q (omega arith) (omega arith))
-
-pub returns : goal.returns
-returns g c e ks P z =
-    let net = g.N.Network.meaning c.args.self.now.network in
-    let (js, Q, q) = c.loop-slot.invariant e ks P z in
-    let whole : take c.loop-slot.slot-index c.loop-slot.places ≡ c.loop-slot.places = take_all _ _ (omega arith) in
-    wrote_all net (next_of c.args.self.now.records.now) c.loop-slot.places js ks (ap (λ x. x ++ js) (sym whole) ∙ q) (omega arith)
