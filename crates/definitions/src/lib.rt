@@ -8,7 +8,7 @@ ghost use Rattle.std.specs.Prelude.{◌≡◌, Some};
 ghost use Rattle.definitions.specs.Networks.{in_group};
 
 // A link: the nodes it joins, its figure, and the risk groups it belongs to (bit b: group b).
-#[derive(Clone, Copy, Drop)]
+#[derive(Clone, Copy, PartialEq, Eq, Debug, Drop)]
 pub struct Link {
     pub tail: u16,
     pub head: u16,
@@ -38,7 +38,7 @@ pub struct FaultCode {
 }
 
 // What has failed when a trace is asked for.
-#[derive(Clone, Copy, Drop)]
+#[derive(Clone, Copy, PartialEq, Eq, Debug, Drop)]
 pub enum Failure {
     Nothing,
     OneLink(u16),

@@ -35,7 +35,7 @@ impl MapFault {
             MapFault::Nodes(n) => (1, *n),
             MapFault::Links(m) => (2, *m),
             MapFault::WrongLength(n) => (7, *n),
-            MapFault::BadLink(fault, _) => return fault.code(),
+            MapFault::BadLink(fault, _) => return FaultCode::from(*fault),
             MapFault::EmptyPlace(k) => (18, *k),
             MapFault::SmallBuffer(n) => (16, *n),
         };

@@ -1,5 +1,5 @@
 -- What a draft and a book stand for, and what each call of a draft does.
-use Rattle.std.specs.Prelude.{◌≡◌, ℕ, ◌≤◌, cond, [], ◌∷◌, ◌++◌, length, Some, None, Ok, Err, vec_items, Option, Result, ◌==◌, nat_le}
+use Rattle.std.specs.Prelude.{◌≡◌, ℕ, ◌+◌, ◌≤◌, cond, ◌||◌, ◌⊎◌, List, [], ◌∷◌, ◌++◌, length, Some, None, Ok, Err, vec_items, Option, Result, ◌==◌, nat_le, nat_lt}
 use Rattle.std.proofs.Common.{arith}
 use Rattle.std.proofs.lemmas.List.{length-map}
 use Rattle.definitions.specs.declared.Link.{Link}
@@ -25,6 +25,11 @@ refusal nodes place l =
     (cond (nat_le nodes l.head) (Some (HeadBeyond place))
     (cond (l.tail == l.head) (Some (SameEnds place)) None)))
 
+-- The first of two faults.
+abbrev pub or_else : {F : Type 0} → Option F → Option F → Option F
+or_else (Some f) next = Some f
+or_else None next = next
+
 -- The answer of a check that found this fault, or none.
 abbrev pub answered : {F : Type 0} → Option F → Result Unit F
 answered None = Ok tt
@@ -45,6 +50,20 @@ Added old l (Err f) new = (f ≡ or_memory (refusal old.nodes (length old.places
 abbrev pub Sized : Net → ℕ → Result Unit DraftFault → Net → Type 0
 Sized old count (Ok _) new = (1 ≤ count) × (count ≤ 256) × (new ≡ listed count [])
 Sized old count (Err f) new = ((1 ≤ count) → (count ≤ 256) → ⊥) × (f ≡ NodeCount count) × (new ≡ old)
+
+-- The first fault of these links, the first of which fills place k of so many nodes.
+abbrev pub first_refusal : ℕ → ℕ → List Link → Option DraftFault
+first_refusal nodes k [] = None
+first_refusal nodes k (l ∷ ls) = or_else (refusal nodes k l) (first_refusal nodes (k + 1) ls)
+
+-- The first fault of a network that is to have so many nodes and these links.
+abbrev pub network_fault : ℕ → List Link → Option DraftFault
+network_fault nodes links = cond (nodes == 0 || nat_lt 256 nodes) (Some (NodeCount nodes)) (first_refusal nodes 0 links)
+
+-- A network of so many nodes and these links in their order, or the first fault; or there was no memory.
+abbrev pub Laid : ℕ → List Link → Result Book DraftFault → Type 0
+Laid nodes links (Ok b) = (network_fault nodes links ≡ None) × (booked b ≡ listed nodes links)
+Laid nodes links (Err f) = (network_fault nodes links ≡ Some f) ⊎ (f ≡ NoMemory)
 
 -- A book keeps the limits, since its table does.
 pub booked_limits : (b : Book) → Limits (booked b)

@@ -2,7 +2,7 @@
 ghost use Rattle.std.specs.Prelude.{◌≡◌, []};
 ghost use Rattle.definitions.specs.Networks.{listed};
 ghost use Rattle.networks.specs.declared.draft.DraftFault.TheVariants.{NoMemory};
-ghost use Rattle.networks.specs.Drafts.{drafted, booked, booked_limits, refusal, answered, Sized, Added};
+ghost use Rattle.networks.specs.Drafts.{drafted, booked, booked_limits, refusal, answered, Sized, Added, Laid};
 ghost use Rattle.networks.specs.Faults.{draft_code};
 
 use crate::network::Network;
@@ -21,17 +21,17 @@ pub enum DraftFault {
     NoMemory,
 }
 
-impl DraftFault {
-    // Layer, number and place of the fault.
-    pub fn code(&self) -> FaultCode
-        ensures { result ≡ draft_code self.now }
-    {
-        let (number, place) = match self {
-            DraftFault::NodeCount(n) => (1, *n),
-            DraftFault::Full(k) => (2, *k),
-            DraftFault::TailBeyond(k) => (3, usize::from(*k)),
-            DraftFault::HeadBeyond(k) => (4, usize::from(*k)),
-            DraftFault::SameEnds(k) => (5, usize::from(*k)),
+// Layer, number and place of the fault.
+impl From<DraftFault> for FaultCode {
+    ghost from_gives = { λ e r. r ≡ draft_code e };
+
+    fn from(fault: DraftFault) -> FaultCode {
+        let (number, place) = match fault {
+            DraftFault::NodeCount(n) => (1, n),
+            DraftFault::Full(k) => (2, k),
+            DraftFault::TailBeyond(k) => (3, usize::from(k)),
+            DraftFault::HeadBeyond(k) => (4, usize::from(k)),
+            DraftFault::SameEnds(k) => (5, usize::from(k)),
             DraftFault::NoMemory => (0, 0),
         };
         FaultCode {
@@ -70,6 +70,7 @@ pub fn admit(nodes: usize, place: usize, link: Link) -> Result<(), DraftFault>
     if place >= 1024 {
         return Err(DraftFault::Full(place));
     }
+    // A cast, since a place below 1,024 always fits: a try_from would have a branch that nothing takes.
     let number = place as u16;
     if usize::from(link.tail) >= nodes {
         return Err(DraftFault::TailBeyond(number));
@@ -128,6 +129,18 @@ impl Draft {
 }
 
 impl Book {
+    // A network of so many nodes with these links in their order, or the first fault that a draft finds.
+    pub fn from_links(heap: Global, nodes: usize, links: &[Link]) -> Result<Book, DraftFault>
+        ensures { Laid nodes links.now result }
+    {
+        let mut draft = Draft::new(heap);
+        draft.size(nodes)?;
+        for link in links {
+            draft.add(*link)?;
+        }
+        Ok(draft.close())
+    }
+
     // Ends the book; the draft has exactly its nodes and links.
     pub fn reopen(self) -> Draft
         ensures { drafted result ≡ booked self }

@@ -27,7 +27,7 @@ impl<'a, N: Network> Network for Withdrawn<'a, N> {
     }
 
     fn place(&self, k: usize) -> Option<Link> {
-        if k < self.marks.len() && self.marks[k] {
+        if self.marks.get(k).copied().unwrap_or(false) {
             return None;
         }
         self.network.place(k)
