@@ -1,5 +1,6 @@
 -- Recovery values, guarantees, held routes and backups exist, with no hypothesis but the limits and the laws.
 use Rattle.std.proofs.Common.{◌≡◌, ℕ, List, Some, None, Option, sym, refl, ap, ◌∙◌, arith}
+use Rattle.std.proofs.lemmas.Option.{none-some}
 use Rattle.definitions.specs.declared.Link.{Link}
 use Rattle.definitions.specs.Networks.{Net, Limits, place, risks, at_risk}
 use Rattle.definitions.specs.Measures.{Scale, Laws, worse}
@@ -43,7 +44,7 @@ module _ (m : Scale) (M : Laws m) (net : Net) (N : Limits net) (t : ℕ) where
   via_of k l v = made_by (recovery k) (m.extend v l.figure)
 
   made_to : (o : Option ℕ) (v w : ℕ) → made_by o v ≡ Some w → (x : ℕ) × (o ≡ Some x) × (w ≡ worse m x v)
-  made_to None v w e = let z : ◌≡◌ {A = ℕ} 0 1 = cc in absurd (omega arith)
+  made_to None v w e = absurd (none-some w e)
   made_to (Some x) v w e = (x, refl, cc)
 
   made_from : (o : Option ℕ) (v w : ℕ) → (x : ℕ) × (o ≡ Some x) × (w ≡ worse m x v) → made_by o v ≡ Some w

@@ -3,6 +3,7 @@ use Rattle.std.proofs.Common.{◌≡◌, ℕ, zero, suc, ◌<◌, ◌≤◌, tru
 use mathlib.Core.Logic.{∥∥₁_elim, ∥∥₁_map}
 use mathlib.Core.HLevel.{⊥_prop}
 use native.Mathlib.Decide.{ℕ_discrete}
+use Rattle.std.proofs.lemmas.Option.{none-some}
 use Rattle.std.proofs.lemmas.Bool.{cond-true, cond-false, eq-eqb, ne_eqb, leb-true, cases_lt}
 use Rattle.definitions.specs.declared.Link.{Link}
 use Rattle.definitions.specs.Networks.{Net, Holds, Limits, place}
@@ -11,7 +12,7 @@ use Rattle.definitions.specs.Routes.{Valuation, Tight, count_tight}
 use Rattle.definitions.specs.Plans.{plain}
 use Rattle.definitions.specs.Searches.{LabelChain, Labels, Nexts}
 use Rattle.definitions.proofs.Fixpoint.{Lawful, itself, met_fits}
-use Rattle.definitions.proofs.Layers.{same_link, place_past}
+use Rattle.definitions.proofs.Layers.{same_link, inside}
 use Rattle.definitions.proofs.Lawfuls.{Value, plain_lawful, Any, count_lawful}
 use Rattle.definitions.proofs.Following.{tight_labels, labels_tight}
 use Rattle.definitions.proofs.Settling.{not_both, chain_grow}
@@ -127,7 +128,7 @@ module _ (ρ : Valuation) (net : Net) (N : Limits net) (t : ℕ) (Fit : ℕ → 
     here n = at (place net.places n) refl
       where
         at : (o : Option Link) → place net.places n ≡ o → Here n
-        at None e = inr (λ l v h q. let z : ◌≡◌ {A = ℕ} 0 1 = cc in omega arith)
+        at None e = inr (λ l v h q. none-some l (sym e ∙ h))
         at (Some l) e = tail (d l.tail) refl
           where
             same : (o : Link) → Holds net n o → o ≡ l
@@ -227,12 +228,6 @@ module _ (ρ : Valuation) (net : Net) (N : Limits net) (t : ℕ) (Fit : ℕ → 
                 let q' : Offered d n o v = subst (λ y. Offered d y o v) p q in
                 offered_one d n i x v oi (subst (λ y. Offered d n y v) (same_link net n o i h' hi) q')
 
-    within : (k : ℕ) (l : Link) → Holds net k l → k < length net.places
-    within k l h = elim (cases_lt k (length net.places)) [
-      | inl p ↦ p
-      | inr p ↦ (let z = place_past net.places k p in let y : ◌≡◌ {A = ℕ} 0 1 = cc in absurd (omega arith))
-    ]
-
     ends : NoOffer (length net.places) → Labels ρ net t d
     ends A = record {
       at_t = F.at_t;
@@ -242,7 +237,7 @@ module _ (ρ : Valuation) (net : Net) (N : Limits net) (t : ℕ) (Fit : ℕ → 
       where
         go : (k : ℕ) (l : Link) (b w : ℕ) → Holds net k l → (l.tail ≡ t → ⊥) → d l.head ≡ Some b → ρ.via k l b w →
             (o : Option ℕ) → d l.tail ≡ o → (a : ℕ) × (d l.tail ≡ Some a) × (ρ.no_worse a w ≡ true)
-        go k l b w h n e m None q = absurd (A k l w (within k l h) h (b, q, e, m))
+        go k l b w h n e m None q = absurd (A k l w (inside net k l h) h (b, q, e, m))
         go k l b w h n e m (Some a) q = (a, q, F.kept k l b w a h e m q n)
 
     -- the best offer is settled
@@ -351,7 +346,7 @@ module _ (ρ : Valuation) (net : Net) (N : Limits net) (t : ℕ) (Fit : ℕ → 
       go on (inr A) = (d, ends d last F A)
       go on (inl (k, l, w, h, o, least)) =
           let fewer = undone_less d l.tail w net.nodes o.1 (N.sound k l h).0 in
-          on (put d l.tail w) w (settles d last F k l w h o (λ j i v hj q. least j i v (within d last F j i hj) hj q)) (omega arith)
+          on (put d l.tail w) w (settles d last F k l w h o (λ j i v hj q. least j i v (inside net j i hj) hj q)) (omega arith)
 
   pub labels_exist : (d : ℕ → Option ℕ) × Labels ρ net t d
   labels_exist = run (undone first net.nodes) first ρ.start begins (omega arith)
@@ -390,14 +385,11 @@ module _ (ρ : Valuation) (net : Net) (N : Limits net) (t : ℕ) (Fit : ℕ → 
                       ne (sym z ∙ via_made k l b a m'')
 
                   makes : (o : Option ℕ) → made k l b ≡ o → TightOrNot k l
-                  makes None z = inr (apart None z (λ e. let y : ◌≡◌ {A = ℕ} 0 1 = cc in omega arith))
+                  makes None z = inr (apart None z (none-some a))
                   makes (Some w) z = elim (ℕ_discrete w a) [
                     | yes e ↦ inl (tight_labels ρ net t Fit L d S k l b a p q r (subst (λ x. ρ.via k l b x) e (made_via k l b w z)))
-                    | no e ↦ inr (apart (Some w) z (λ y. e (some_one w a y)))
+                    | no e ↦ inr (apart (Some w) z (λ y. e cc))
                   ]
-                    where
-                      some_one : (x y : ℕ) → ◌≡◌ {A = Option ℕ} (Some x) (Some y) → x ≡ y
-                      some_one x y e = cc
 
   abbrev counted : (k : ℕ) (l : Link) → TightOrNot k l → ℕ → Option ℕ
   counted k l (inl T) n = Some (suc n)
@@ -408,7 +400,7 @@ module _ (ρ : Valuation) (net : Net) (N : Limits net) (t : ℕ) (Fit : ℕ → 
     where
       to : (k : ℕ) (l : Link) (v w : ℕ) (c : TightOrNot k l) → counted k l c v ≡ Some w → Tight ρ net t k l × (w ≡ suc v)
       to k l v w (inl T) e = (T, cc)
-      to k l v w (inr A) e = let y : ◌≡◌ {A = ℕ} 0 1 = cc in absurd (omega arith)
+      to k l v w (inr A) e = absurd (none-some w e)
 
       from : (k : ℕ) (l : Link) (v w : ℕ) (c : TightOrNot k l) → Tight ρ net t k l × (w ≡ suc v) → counted k l c v ≡ Some w
       from k l v w (inl T) (_, e) = ap Some (sym e)
@@ -432,7 +424,7 @@ module _ (ρ : Valuation) (net : Net) (N : Limits net) (t : ℕ) (Fit : ℕ → 
     leads? u k = at (place net.places k) refl
       where
         at : (o : Option Link) → place net.places k ≡ o → LeadsOrNot u k
-        at None e = inr (λ o (n, h, f, T, p, q). let z : ◌≡◌ {A = ℕ} 0 1 = cc in omega arith)
+        at None e = inr (λ o D. none-some o (sym e ∙ D.1))
         at (Some l) e = tail (ℕ_discrete l.tail u)
           where
             turn : (P : Link → Type 0) → (P l → ⊥) → ((o : Link) → Leading u k o → P o) → (o : Link) → Leading u k o → ⊥
@@ -455,14 +447,11 @@ module _ (ρ : Valuation) (net : Net) (N : Limits net) (t : ℕ) (Fit : ℕ → 
                             (λ (c, x, y). let z : c ≡ n = cc in ne (sym q ∙ (y ∙ ap (λ i. Some (suc i)) z))) (λ o D. (D.0, D.4, D.5))
 
                         own : (o : Option ℕ) → s u ≡ o → LeadsOrNot u k
-                        own None q = inr (apart None q (λ z. let y : ◌≡◌ {A = ℕ} 0 1 = cc in omega arith))
+                        own None q = inr (apart None q (none-some (suc n)))
                         own (Some a) q = elim (ℕ_discrete a (suc n)) [
                           | yes z ↦ inl (l, (n, e, f, T, p, q ∙ ap Some z))
-                          | no z ↦ inr (apart (Some a) q (λ y. z (some_one a (suc n) y)))
+                          | no z ↦ inr (apart (Some a) q (λ y. z cc))
                         ]
-                          where
-                            some_one : (x y : ℕ) → ◌≡◌ {A = Option ℕ} (Some x) (Some y) → x ≡ y
-                            some_one x y e = cc
 
     lowest : (u n : ℕ) → Lowest u n ⊎ Nowhere u n
     lowest u zero = inr (λ j o lt D. omega arith)
@@ -472,12 +461,6 @@ module _ (ρ : Valuation) (net : Net) (N : Limits net) (t : ℕ) (Fit : ℕ → 
         join (inl (k, l, lt, D, low)) h = inl (k, l, omega arith, D, λ j o lj E. elim (ℕ_discrete j n) [ yes p ↦ omega arith | no p ↦ low j o (omega arith) E ])
         join (inr A) (inl (l, D)) = inl (n, l, omega arith, D, λ j o lt E. elim (ℕ_discrete j n) [ yes p ↦ omega arith | no p ↦ absurd (A j o (omega arith) E) ])
         join (inr A) (inr B) = inr (λ j o lt E. elim (ℕ_discrete j n) [ yes p ↦ B o (subst (λ x. Leading u x o) p E) | no p ↦ A j o (omega arith) E ])
-
-    inside : (k : ℕ) (l : Link) → Holds net k l → k < length net.places
-    inside k l h = elim (cases_lt k (length net.places)) [
-      | inl p ↦ p
-      | inr p ↦ (let z = place_past net.places k p in let y : ◌≡◌ {A = ℕ} 0 1 = cc in absurd (omega arith))
-    ]
 
     abbrev taken_place : (u n : ℕ) → Lowest u n ⊎ Nowhere u n → Option ℕ
     taken_place u n (inl x) = Some x.0
@@ -499,9 +482,9 @@ module _ (ρ : Valuation) (net : Net) (N : Limits net) (t : ℕ) (Fit : ℕ → 
             (c : Lowest l.tail (length net.places) ⊎ Nowhere l.tail (length net.places)) → taken_place l.tail (length net.places) c ≡ Some j → j ≤ k
         low k l n j h T e q (inl (i, o, lt, D, least)) f =
             let z : i ≡ j = cc in
-            let le : i ≤ k = least k l (inside k l h) (n, h, refl, T, e, q) in
+            let le : i ≤ k = least k l (inside net k l h) (n, h, refl, T, e, q) in
             omega arith
-        low k l n j h T e q (inr A) f = absurd (A k l (inside k l h) (n, h, refl, T, e, q))
+        low k l n j h T e q (inr A) f = absurd (A k l (inside net k l h) (n, h, refl, T, e, q))
 
         has : (u a : ℕ) → s u ≡ Some a → (u ≡ t → ⊥) → (c : Lowest u (length net.places) ⊎ Nowhere u (length net.places)) → lowest u (length net.places) ≡ c →
             (k : ℕ) × (l : Link) × (n : ℕ) × (following u ≡ Some k) × Holds net k l × (l.tail ≡ u) × Tight ρ net t k l × (s l.head ≡ Some n) × (a ≡ suc n)
@@ -511,7 +494,7 @@ module _ (ρ : Valuation) (net : Net) (N : Limits net) (t : ℕ) (Fit : ℕ → 
           where
             none : (ks : List ℕ) → LabelChain (count_tight ρ net t) net t s u ks → ⊥
             none [] p = away p
-            none (k ∷ ks) (l, b, a', h, f, n, db, da, (T, z), rest) = A k l (inside k l h) (b, h, f, T, db, da ∙ ap Some z)
+            none (k ∷ ks) (l, b, a', h, f, n, db, da, (T, z), rest) = A k l (inside net k l h) (b, h, f, T, db, da ∙ ap Some z)
 
   pub nexts_exist : (s : ℕ → Option ℕ) × (nx : ℕ → Option ℕ) × Nexts ρ net t s nx
   nexts_exist = let (s, C) = steps_exist in (s, following s C, nexts_found s C)

@@ -3,6 +3,7 @@ use Rattle.std.proofs.Common.{◌≡◌, ℕ, zero, suc, pred, List, [], ◌∷�
 use mathlib.Core.Logic.{∥∥₁_elim}
 use mathlib.Core.HLevel.{⊥_prop}
 use native.Mathlib.Decide.{ℕ_discrete}
+use Rattle.std.proofs.lemmas.Option.{none-some}
 use Rattle.std.proofs.lemmas.Bool.{le-leb, cases_order}
 use Rattle.definitions.specs.declared.Link.{Link}
 use Rattle.definitions.specs.Networks.{Net, Holds}
@@ -156,7 +157,7 @@ module _ (ρ : Valuation) (net : Net) (t : ℕ) where
             go None q =
                 absurd (∥∥₁_elim (S.met u a e) ⊥_prop (λ c.
                 let (n, sn, le) = label_bound (count_tight ρ net t) net t Any (count_lawful ρ net t) s count_labels u c.0 (length c.0) (chain_count u c.0 c.1) in
-                let z : ◌≡◌ {A = ℕ} 0 1 = cc in omega arith))
+                none-some n (sym q ∙ sn)))
 
         -- and a held route
         pub held_from : (n u : ℕ) → s u ≡ Some n → (ks : List ℕ) × Held ρ net t u ks

@@ -79,9 +79,6 @@ module _ (ρ σ : Valuation) (net : Net) (t : ℕ) (L : Lawful ρ net Value) (K 
     taken = λ u a e n. let (k, l, c, q, h, f, T, g, z) = X.taken u a e n in (k, l, c, q, h, f, tight_to k l h T, g, z);
   }
 
-some_one : (x y : ℕ) → ◌≡◌ {A = Option ℕ} (Some x) (Some y) → x ≡ y
-some_one x y e = cc
-
 module _ (m : Scale) (M : Laws m) (net : Net) (N : Limits net) (t : ℕ) where
   -- The recovery values of a network: at each link r(k), and none where there is no route.
   pub record Recoveries (r : ℕ → Option ℕ) : Type 0 where
@@ -114,7 +111,7 @@ module _ (m : Scale) (M : Laws m) (net : Net) (N : Limits net) (t : ℕ) where
   -- With the start for every link, labels are labels by plain values.
   module _ (r : ℕ → Option ℕ) (R : (k : ℕ) (l : Link) → Holds net k l → r k ≡ Some m.start) where
     pub starts_lawful : Lawful (given m r) net Value
-    starts_lawful = given_lawful m M net N t r (λ k l x h e. let q : x ≡ m.start = some_one x m.start (sym e ∙ R k l h) in rw q M.start_fits)
+    starts_lawful = given_lawful m M net N t r (λ k l x h e. let q : x ≡ m.start = (let s = R k l h in cc) in rw q M.start_fits)
 
     module _ (d : ℕ → Option ℕ) (S : Labels (given m r) net t d) where
       -- a label is no better than the start, so the start changes nothing
@@ -128,7 +125,8 @@ module _ (m : Scale) (M : Laws m) (net : Net) (N : Limits net) (t : ℕ) where
 
       idle_via : (k : ℕ) (l : Link) (b w : ℕ) → Holds net k l → d l.head ≡ Some b → (given m r).via k l b w → (plain m).via k l b w
       idle_via k l b w h e (x, ex, q) =
-          let z : x ≡ m.start = some_one x m.start (sym ex ∙ R k l h) in
+          let s = R k l h in
+          let z : x ≡ m.start = cc in
           q ∙ (ap (λ y. worse m y (m.extend b l.figure)) z ∙ start_idle k l b h e)
 
       via_idle : (k : ℕ) (l : Link) (b w : ℕ) → Holds net k l → d l.head ≡ Some b → (plain m).via k l b w → (given m r).via k l b w

@@ -2,7 +2,7 @@
 use Rattle.std.proofs.Common.{◌≡◌, ℕ, suc, ◌^◌, ◌<◌, Bool, true, false, cond, ◌⊎◌, refl, inl, inr, le_antisymm, arith}
 use mathlib.Core.HLevel.{Unit-prop}
 use native.Mathlib.Bridge.{le_prop}
-use Rattle.std.proofs.lemmas.Bool.{leb-true, le-leb, cases_lt}
+use Rattle.std.proofs.lemmas.Bool.{both_ways, leb-true, le-leb, cases_lt}
 use Rattle.definitions.specs.declared.Link.{Link}
 use Rattle.definitions.specs.Networks.{Net, Holds, Limits, at_risk, risks}
 use Rattle.definitions.specs.Measures.{Scale, Laws, worse}
@@ -34,7 +34,7 @@ module _ (m : Scale) (M : Laws m) where
     where
       go : (x : Bool) → m.no_worse a b ≡ x → m.no_worse b (cond x b a) ≡ true
       go true e = self b q
-      go false e = elim (M.one_is a b p q) [ inl h ↦ (let z : ◌≡◌ {A = ℕ} 0 1 = cc in absurd (omega arith)) | inr h ↦ h ]
+      go false e = elim (M.one_is a b p q) [ inl h ↦ absurd (both_ways _ e h) | inr h ↦ h ]
 
   pub worse_least : (a b c : ℕ) → m.no_worse a c ≡ true → m.no_worse b c ≡ true → m.no_worse (worse m a b) c ≡ true
   worse_least a b c p q = elim (m.no_worse a b) as (λ x. m.no_worse (cond x b a) c ≡ true) [ true ↦ q | false ↦ p ]

@@ -3,6 +3,7 @@ use Rattle.std.proofs.Common.{◌≡◌, ℕ, true, ◌⊎◌, List, [], ◌∷�
 use mathlib.Core.Bool.{Bool-set}
 use mathlib.Core.Logic.{∥∥₁_elim, ∥∥₁_map, ∥∥₁_prop}
 use native.Mathlib.Decide.{ℕ_discrete}
+use Rattle.std.proofs.lemmas.Option.{none-some}
 use Rattle.definitions.specs.declared.Link.{Link}
 use Rattle.definitions.specs.Networks.{Net, Holds}
 use Rattle.definitions.specs.Routes.{Valuation}
@@ -12,7 +13,7 @@ use Rattle.definitions.proofs.Layers.{same_link}
 
 -- no node has both a label and none
 pub not_both : (o : Option ℕ) (a : ℕ) → o ≡ Some a → o ≡ None → ⊥
-not_both o a p q = let z : ◌≡◌ {A = ℕ} 0 1 = cc in omega arith
+not_both o a p q = none-some a (sym q ∙ p)
 
 -- a chain stays when a node without a label gets one
 pub chain_grow : (ρ : Valuation) (net : Net) (t : ℕ) (d d' : ℕ → Option ℕ) → ((u a : ℕ) → d u ≡ Some a → d' u ≡ Some a) →
