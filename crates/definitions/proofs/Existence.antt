@@ -10,12 +10,12 @@ use Rattle.definitions.specs.Networks.{Net, Holds, Limits, place}
 use Rattle.definitions.specs.Measures.{Scale, Laws}
 use Rattle.definitions.specs.Routes.{Valuation, Tight, count_tight}
 use Rattle.definitions.specs.Plans.{plain}
-use Rattle.definitions.specs.Searches.{LabelChain, Labels, Nexts}
+use Rattle.definitions.specs.Searches.{LabelChain, Labels, Nexts, Running}
 use Rattle.definitions.proofs.Fixpoint.{Lawful, itself, met_fits}
 use Rattle.definitions.proofs.Layers.{same_link, inside}
 use Rattle.definitions.proofs.Lawfuls.{Value, plain_lawful, Any, count_lawful}
 use Rattle.definitions.proofs.Following.{tight_labels, labels_tight}
-use Rattle.definitions.proofs.Settling.{not_both, chain_grow}
+use Rattle.definitions.proofs.Settling.{not_both, begins, done_fits, in_fits, settles, ends}
 
 -- Of the numbers that the first n places offer, one that comes before all, or there is none.
 module _ (Offers : ℕ → ℕ → Type 0) (le : ℕ → ℕ → Type 0) where
@@ -109,48 +109,65 @@ module _ (ρ : Valuation) (net : Net) (N : Limits net) (t : ℕ) (Fit : ℕ → 
       let y = via_made k l b w q' in
       cc
 
-  -- Labels that are settled in rising order, the last of them `last`.
-  record Front (d : ℕ → Option ℕ) (last : ℕ) : Type 0 where
-    at_t : d t ≡ Some ρ.start
-    met : (u a : ℕ) → d u ≡ Some a → ∥ ((ks : List ℕ) × LabelChain ρ net t d u ks) ∥₁
-    fits : Fit last
-    behind : (u a : ℕ) → d u ≡ Some a → ρ.no_worse a last ≡ true
-    ahead : (k : ℕ) (l : Link) (w : ℕ) → Holds net k l → Offered d k l w → ρ.no_worse last w ≡ true
-    kept : (k : ℕ) (l : Link) (b w a : ℕ) → Holds net k l → d l.head ≡ Some b → ρ.via k l b w → d l.tail ≡ Some a → (l.tail ≡ t → ⊥) → ρ.no_worse a w ≡ true
+  -- The search under way, where each link is offered at once: what waits is what the links offer.
+  abbrev Waits : (ℕ → Option ℕ) → ℕ → ℕ → Type 0
+  Waits d w u = (k : ℕ) × (l : Link) × Holds net k l × (l.tail ≡ u) × Offered d k l w
+
+  abbrev All : ℕ → Link → Type 0
+  All k l = Unit {0}
+
+  abbrev Front : (ℕ → Option ℕ) → ℕ → Type 0
+  Front d last = Running ρ net t d (Waits d) All last
+
+  -- now also the links into the node that was settled last
+  all_offered : (d : ℕ → Option ℕ) (In : ℕ → ℕ → Type 0) (u last : ℕ) → d u ≡ Some last → Running ρ net t d In (λ k l. l.head ≡ u → ⊥) last → Front d last
+  all_offered d In u last now R = record {
+    at_t = R.at_t;
+    met = R.met;
+    newest = R.newest;
+    behind = R.behind;
+    ahead = λ w x (k, l, h, f, (b, n, hb, m)). elim (ℕ_discrete l.head u) [
+      | yes p ↦ L.never_better k l last w h fit_last (via_last k l b w p hb m)
+      | no p ↦ R.ahead w l.tail (R.waits k l b w h p (λ q. not_both (d l.tail) ρ.start (ap d q ∙ R.at_t) n) hb m n)
+    ];
+    origin = λ w x (k, l, h, f, (b, n, hb, m)). ∣ (k, l, b, h, f, hb, m) ∣₁;
+    kept = λ k l b w a h du n hb m e. elim (ℕ_discrete l.head u) [
+      | yes p ↦
+          let m' = via_last k l b w p hb m in
+          L.chains a last w (fits l.tail a e) fit_last (L.via_fits k l last w h fit_last m') (R.behind l.tail a e) (L.never_better k l last w h fit_last m')
+      | no p ↦ R.kept k l b w a h p n hb m e
+    ];
+    waits = λ k l b w h du n hb m e. (k, l, h, refl, (b, e, hb, m));
+  }
+    where
+      fits : (x a : ℕ) → d x ≡ Some a → Fit a
+      fits x a e = done_fits ρ net t Fit L d In (λ k l. l.head ≡ u → ⊥) last R x a e
+
+      fit_last : Fit last
+      fit_last = fits u last now
+
+      via_last : (k : ℕ) (l : Link) (b w : ℕ) → l.head ≡ u → d l.head ≡ Some b → ρ.via k l b w → ρ.via k l last w
+      via_last k l b w p hb m =
+          let hl : d l.head ≡ Some last = ap d p ∙ now in
+          let same : b ≡ last = cc in
+          subst (λ x. ρ.via k l x w) same m
 
   -- t alone has a label
   abbrev first : ℕ → Option ℕ
   first = put (λ x. None) t ρ.start
 
-  first_only : (u a : ℕ) → first u ≡ Some a → u ≡ t
-  first_only u a e = elim (ℕ_discrete u t) [ yes p ↦ p | no n ↦ absurd (not_both (first u) a e (put_there (λ x. None) t ρ.start u n)) ]
-
-  first_start : (u a : ℕ) → first u ≡ Some a → a ≡ ρ.start
-  first_start u a e = let h : first u ≡ Some ρ.start = put_here (λ x. None) t ρ.start u (first_only u a e) in cc
-
-  begins : Front first ρ.start
-  begins = record {
-    at_t = put_here (λ x. None) t ρ.start t refl;
-    met = λ u a e. ∣ ([], first_only u a e) ∣₁;
-    fits = L.start_fits;
-    behind = λ u a e. rw (first_start u a e) (itself ρ net t Fit L ρ.start L.start_fits);
-    ahead = λ k l w h (b, n, e, m). rw (first_start l.head b e) at (L.never_better k l b w h (rw (first_start l.head b e) L.start_fits) m);
-    kept = λ k l b w a h e m q n. absurd (n (first_only l.tail a q));
-  }
+  front_first : Front first ρ.start
+  front_first =
+      let now = put_here (λ x. None) t ρ.start t refl in
+      all_offered first (λ w u. ⊥) t ρ.start now (begins ρ net t Fit L first now (λ u n. put_there (λ x. None) t ρ.start u n))
 
   module _ (d : ℕ → Option ℕ) (last : ℕ) (F : Front d last) where
-    label_fit : (u a : ℕ) → d u ≡ Some a → Fit a
-    label_fit u a e = met_fits ρ net t Fit L d F.at_t u a e (F.met u a e)
-
-    offered_fit : (k : ℕ) (l : Link) (w : ℕ) → Holds net k l → Offered d k l w → Fit w
-    offered_fit k l w h (b, n, e, m) = L.via_fits k l b w h (label_fit l.head b e) m
-
     -- what the link at k offers
     abbrev Offer : ℕ → ℕ → Type 0
     Offer k w = (l : Link) × Holds net k l × Offered d k l w
 
     offer_fit : (k w : ℕ) → Offer k w → Fit w
-    offer_fit k w (l, h, q) = offered_fit k l w h q
+    offer_fit k w (l, h, q) = in_fits ρ net t Fit L d (Waits d) All last F w l.tail (k, l, h, refl, q)
 
     offer_one : (k v w : ℕ) → Offer k v → Offer k w → v ≡ w
     offer_one k v w (l, h, p) (o, g, q) = offered_one d k l v w p (subst (λ x. Offered d k x w) (same_link net k o l g h) q)
@@ -190,105 +207,17 @@ module _ (ρ : Valuation) (net : Net) (N : Limits net) (t : ℕ) (Fit : ℕ → 
     best_offer = least Offer NoWorse (λ i j a b x y. L.one_is a b (offer_fit i a x) (offer_fit j b y))
         (λ i j k a b c x y z. L.chains a b c (offer_fit i a x) (offer_fit j b y) (offer_fit k c z)) offer_one offer? (length net.places)
 
-    ends : NoOffer Offer NoWorse (length net.places) → Labels ρ net t d
-    ends A = record {
-      at_t = F.at_t;
-      met = F.met;
-      relaxed = λ k l b w h n e m. go k l b w h n e m (d l.tail) refl;
-    }
-      where
-        go : (k : ℕ) (l : Link) (b w : ℕ) → Holds net k l → (l.tail ≡ t → ⊥) → d l.head ≡ Some b → ρ.via k l b w →
-            (o : Option ℕ) → d l.tail ≡ o → (a : ℕ) × (d l.tail ≡ Some a) × (ρ.no_worse a w ≡ true)
-        go k l b w h n e m None q = absurd (A k w (inside net k l h) (l, h, (b, q, e, m)))
-        go k l b w h n e m (Some a) q = (a, q, F.kept k l b w a h e m q n)
+    -- without an offer the search has ended, and else the best offer is settled
+    ended : NoOffer Offer NoWorse (length net.places) → Labels ρ net t d
+    ended A = ends ρ net t Fit L d (Waits d) All last F (λ w u (k, l, h, f, o). A k w (inside net k l h) (l, h, o)) (λ k l. tt)
 
-    -- the best offer is settled
-    settles : (k : ℕ) (l : Link) (w : ℕ) → Holds net k l → Offered d k l w →
-        ((j : ℕ) (o : Link) (v : ℕ) → Holds net j o → Offered d j o v → ρ.no_worse w v ≡ true) → Front (put d l.tail w) w
-    settles k l w hk ok least = record {
-      at_t = keeps t ρ.start F.at_t;
-      met = met';
-      fits = fw;
-      behind = behind';
-      ahead = ahead';
-      kept = kept';
-    }
-      where
-        fresh : d l.tail ≡ None
-        fresh = ok.1
-
-        fw : Fit w
-        fw = offered_fit k l w hk ok
-
-        keeps : (x a : ℕ) → d x ≡ Some a → put d l.tail w x ≡ Some a
-        keeps x a e = elim (ℕ_discrete x l.tail) [
-          | yes p ↦ absurd (not_both (d x) a e (ap d p ∙ fresh))
-          | no n ↦ put_there d l.tail w x n ∙ e
-        ]
-
-        -- what has a label now had it before, or is the node just settled
-        was : (x a : ℕ) → put d l.tail w x ≡ Some a → (d x ≡ Some a) ⊎ ((x ≡ l.tail) × (w ≡ a))
-        was x a e = elim (ℕ_discrete x l.tail) [
-          | yes p ↦ inr (p, (let h = put_here d l.tail w x p in cc))
-          | no n ↦ inl (sym (put_there d l.tail w x n) ∙ e)
-        ]
-
-        -- what has none now had none before
-        none : (x : ℕ) → put d l.tail w x ≡ None → d x ≡ None
-        none x e = elim (ℕ_discrete x l.tail) [
-          | yes p ↦ ap d p ∙ fresh
-          | no n ↦ sym (put_there d l.tail w x n) ∙ e
-        ]
-
-        behind' : (x a : ℕ) → put d l.tail w x ≡ Some a → ρ.no_worse a w ≡ true
-        behind' x a e = elim (was x a e) [
-          | inl q ↦ L.chains a last w (label_fit x a q) F.fits fw (F.behind x a q) (F.ahead k l w hk ok)
-          | inr q ↦ subst (λ y. ρ.no_worse y w ≡ true) q.1 (itself ρ net t Fit L w fw)
-        ]
-
-        ahead' : (j : ℕ) (o : Link) (v : ℕ) → Holds net j o → Offered (put d l.tail w) j o v → ρ.no_worse w v ≡ true
-        ahead' j o v h (b, n, e, m) = elim (was o.head b e) [
-          | inl q ↦ least j o v h (b, none o.tail n, q, m)
-          | inr q ↦ L.never_better j o w v h fw (subst (λ y. ρ.via j o y v) (sym q.1) m)
-        ]
-
-        fit_now : (x a : ℕ) → put d l.tail w x ≡ Some a → Fit a
-        fit_now x a e = elim (was x a e) [ inl q ↦ label_fit x a q | inr q ↦ subst Fit q.1 fw ]
-
-        kept' : (j : ℕ) (o : Link) (b v a : ℕ) → Holds net j o → put d l.tail w o.head ≡ Some b → ρ.via j o b v →
-            put d l.tail w o.tail ≡ Some a → (o.tail ≡ t → ⊥) → ρ.no_worse a v ≡ true
-        kept' j o b v a h e m q n = elim (was o.head b e) [
-          | inr z ↦
-              let m' : ρ.via j o w v = subst (λ y. ρ.via j o y v) (sym z.1) m in
-              L.chains a w v (fit_now o.tail a q) fw (L.via_fits j o w v h fw m') (behind' o.tail a q) (L.never_better j o w v h fw m')
-          | inl z ↦ elim (was o.tail a q) [
-            | inl y ↦ F.kept j o b v a h z m y n
-            | inr y ↦ subst (λ x. ρ.no_worse x v ≡ true) y.1 (least j o v h (b, ap d y.0 ∙ fresh, z, m))
-          ]
-        ]
-
-        away : l.tail ≡ t → ⊥
-        away p = not_both (d l.tail) ρ.start (ap d p ∙ F.at_t) fresh
-
-        met' : (x a : ℕ) → put d l.tail w x ≡ Some a → ∥ ((ks : List ℕ) × LabelChain ρ net t (put d l.tail w) x ks) ∥₁
-        met' x a e = elim (was x a e) [
-          | inl q ↦ ∥∥₁_map (F.met x a q) (λ c. (c.0, chain_grow ρ net t d (put d l.tail w) keeps x c.0 c.1))
-          | inr q ↦ ∥∥₁_map (F.met l.head ok.0 ok.2) (λ c. (
-            k ∷ c.0,
-            (
-              l,
-              ok.0,
-              w,
-              hk,
-              sym q.0,
-              (λ z. away (sym q.0 ∙ z)),
-              keeps l.head ok.0 ok.2,
-              put_here d l.tail w x q.0,
-              ok.3,
-              chain_grow ρ net t d (put d l.tail w) keeps l.head c.0 c.1,
-            ),
-          ))
-        ]
+    front_next : (k : ℕ) (l : Link) (w : ℕ) → Holds net k l → Offered d k l w → ((j v : ℕ) → j < length net.places → Offer j v → NoWorse w v) → Front (put d l.tail w) w
+    front_next k l w h o low =
+        let now = put_here d l.tail w l.tail refl in
+        all_offered (put d l.tail w) (λ v x. Waits d v x × (x ≡ l.tail → ⊥)) l.tail w now
+        (settles ρ net t Fit L d (Waits d) All last F w l.tail (k, l, h, refl, o) (λ v x. Waits d v x × (x ≡ l.tail → ⊥))
+        (λ v x (j, i, hj, f, q). low j v (inside net j i hj) (i, hj, q)) (λ v x i. i.0) (λ v x n i. (i, n))
+        (put d l.tail w) o.1 now (λ x n. put_there d l.tail w x n) (λ j i. tt))
 
   undone_some : (d : ℕ → Option ℕ) (u n : ℕ) → d u ≡ None → u < n → 0 < undone d n
   undone_some d u n e lt = let z = undone_less d u 0 n e lt in omega arith
@@ -298,18 +227,18 @@ module _ (ρ : Valuation) (net : Net) (N : Limits net) (t : ℕ) (Fit : ℕ → 
 
   run : (fuel : ℕ) (d : ℕ → Option ℕ) (last : ℕ) → Front d last → undone d net.nodes ≤ fuel → Found
   run zero d last F le = elim (best_offer d last F) [
-    | inr A ↦ (d, ends d last F A)
+    | inr A ↦ (d, ended d last F A)
     | inl (k, w, lt, (l, h, o), low) ↦ absurd (let z = undone_some d l.tail net.nodes o.1 (N.sound k l h).0 in omega arith)
   ]
   run (suc fuel) d last F le = elim (best_offer d last F) [
-    | inr A ↦ (d, ends d last F A)
+    | inr A ↦ (d, ended d last F A)
     | inl (k, w, lt, (l, h, o), low) ↦
         let fewer = undone_less d l.tail w net.nodes o.1 (N.sound k l h).0 in
-        run fuel (put d l.tail w) w (settles d last F k l w h o (λ j i v hj q. low j v (inside net j i hj) (i, hj, q))) (omega arith)
+        run fuel (put d l.tail w) w (front_next d last F k l w h o low) (omega arith)
   ]
 
   pub labels_exist : (d : ℕ → Option ℕ) × Labels ρ net t d
-  labels_exist = run (undone first net.nodes) first ρ.start begins (omega arith)
+  labels_exist = run (undone first net.nodes) first ρ.start front_first (omega arith)
 
 -- By the labels it is decided which links are tight, and the count of tight links has labels again.
 module _ (ρ : Valuation) (net : Net) (N : Limits net) (t : ℕ) (Fit : ℕ → Type 0) (L : Lawful ρ net Fit)
