@@ -60,9 +60,12 @@ module _ (ρ : Valuation) (net : Net) (t : ℕ) where
     pub start_best : Best ρ net t t ρ.start
     start_best = record { reached = ∣ ([], (refl, refl)) ∣₁; unbeaten = λ ks v r. past_start ρ net t Fit L t ks v r }
 
+    pub best_at_end : (u a : ℕ) → u ≡ t → Best ρ net t u a → a ≡ ρ.start
+    best_at_end u a p B = best_one ρ net t Fit L t a ρ.start (subst (λ x. Best ρ net t x a) p B) start_best
+
     -- the held route of a node has the node's best value
     pub held_value : (u : ℕ) (ks : List ℕ) (a : ℕ) → Best ρ net t u a → Held ρ net t u ks → RouteValue ρ net t u ks a
-    held_value u [] a B p = (p, best_one ρ net t Fit L t a ρ.start (subst (λ x. Best ρ net t x a) p B) start_best)
+    held_value u [] a B p = (p, best_at_end u a p B)
     held_value u (k ∷ ks) a B (l, K, p) =
         let T = K.tight in
         let e : T.own ≡ a = best_one ρ net t Fit L u T.own a (subst (λ x. Best ρ net t x T.own) K.starts T.best_own) B in
@@ -170,3 +173,7 @@ module _ (ρ : Valuation) (net : Net) (t : ℕ) where
                 let (k, l, _, K, g) = next_label u (suc n) e q in
                 let (ks, r) = go n l.head g (ℕ_discrete l.head t) in
                 (k ∷ ks, (l, K, r))
+
+        -- so every node with a best value has a held route
+        pub best_held : (u a : ℕ) → Best ρ net t u a → (ks : List ℕ) × Held ρ net t u ks
+        best_held u a B = let (n, e) = value_steps u a (best_label ρ net t Fit L d S u a B) in held_from n u e

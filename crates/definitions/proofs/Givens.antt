@@ -5,6 +5,7 @@ use mathlib.Core.HLevel.{⊥_prop}
 use mathlib.Core.Logic.{∥∥₁_elim, ∥∥₁_map}
 use native.Mathlib.Bridge.{le_prop}
 use Rattle.std.proofs.lemmas.Bool.{cond-true}
+use Rattle.std.proofs.lemmas.Option.{none-some}
 use Rattle.definitions.specs.declared.Link.{Link}
 use Rattle.definitions.specs.Networks.{Net, Holds, Limits, at_risk}
 use Rattle.definitions.specs.Measures.{Scale, Laws, worse}
@@ -13,35 +14,25 @@ use Rattle.definitions.specs.Plans.{plain, worst, Recovery}
 use Rattle.definitions.specs.Searches.{given, LabelChain, Labels, Nexts}
 use Rattle.definitions.proofs.Fixpoint.{Lawful, past_start, label_fits, chain_value}
 use Rattle.definitions.proofs.Following.{tight_labels, labels_tight}
-use Rattle.definitions.proofs.Lawfuls.{Value, worse_fits, worse_right, worse_keeps, plain_lawful, worst_lawful, recovery_one, recovery_fits}
+use Rattle.definitions.proofs.Lawfuls.{Value, worse_lawful, plain_lawful, worst_lawful, recovery_one, recovery_fits}
 
 module _ (m : Scale) (M : Laws m) (net : Net) (N : Limits net) (t : ℕ) (r : ℕ → Option ℕ) where
   pub given_lawful : ((k : ℕ) (l : Link) (x : ℕ) → Holds net k l → r k ≡ Some x → Value x) → Lawful (given m r) net Value
-  given_lawful F = record {
-    fit_prop = λ v. le_prop;
-    start_fits = M.start_fits;
-    via_fits = λ k l v w h f e. rw e.2 (worse_fits m M e.0 (m.extend v l.figure) (F k l e.0 h e.1) (M.extend_fits v l.figure f (N.sound k l h).3));
-    one_is = M.one_is;
-    chains = M.chains;
-    equal = M.equal;
-    keeps = keeps_given;
-    never_better = λ k l v w h fv e.
-        let f = (N.sound k l h).3 in
-        let x = m.extend v l.figure in
-        let fx = M.extend_fits v l.figure fv f in
-        let fr = F k l e.0 h e.1 in
-        rw e.2 (M.chains v x (worse m e.0 x) fv fx (worse_fits m M e.0 x fr fx) (M.never_better v l.figure fv f) (worse_right m M e.0 x fr fx));
-    via_any = λ k l a b v h fa fb p. (worse m p.0 (m.extend b l.figure), (p.0, p.1, refl));
-  }
-    where
-      keeps_given : (k : ℕ) (l : Link) (a b v w : ℕ) → Holds net k l → Value a → Value b → m.no_worse a b ≡ true →
-          (given m r).via k l a v → (given m r).via k l b w → m.no_worse v w ≡ true
-      keeps_given k l a b v w h fa fb le (x, ex, p) (y, ey, q) =
-          let f = (N.sound k l h).3 in
-          let xy : y ≡ x = cc in
-          let e : w ≡ worse m x (m.extend b l.figure) = rw (← xy) q in
-          rw (p, e) (worse_keeps m M x (m.extend a l.figure) (m.extend b l.figure) (F k l x h ex)
-          (M.extend_fits a l.figure fa f) (M.extend_fits b l.figure fb f) (M.keeps a b l.figure fa fb f le))
+  given_lawful F = worse_lawful m M net N (λ k l x. r k ≡ Some x) F (λ k l x y p q. cc)
+
+-- What the link makes of the value b, by the recovery values r.
+abbrev pub made : Scale → (ℕ → Option ℕ) → ℕ → Link → ℕ → Option ℕ
+made m r k l b = elim (r k) [ None ↦ None | Some x ↦ Some (worse m x (m.extend b l.figure)) ]
+
+pub made_via : (m : Scale) (r : ℕ → Option ℕ) (k : ℕ) (l : Link) (b w : ℕ) → made m r k l b ≡ Some w → (given m r).via k l b w
+made_via m r k l b w e = go (r k) refl
+  where
+    go : (o : Option ℕ) → r k ≡ o → (given m r).via k l b w
+    go None q = absurd (none-some w (rw (q, made) at e))
+    go (Some x) q = (x, q, (let e' : ◌≡◌ {A = Option ℕ} (Some (worse m x (m.extend b l.figure))) (Some w) = rw (q, made) at e in cc))
+
+pub via_made : (m : Scale) (r : ℕ → Option ℕ) (k : ℕ) (l : Link) (b w : ℕ) → (given m r).via k l b w → made m r k l b ≡ Some w
+via_made m r k l b w (x, q, e) = rw (q, made) (ap Some (sym e))
 
 -- Labels pass from one valuation to another of the same start and order, by which labelled heads make the same.
 pub labels_over : (ρ σ : Valuation) (net : Net) (t : ℕ) (d : ℕ → Option ℕ) → ρ.start ≡ σ.start → ρ.no_worse ≡ σ.no_worse →

@@ -10,6 +10,7 @@ use Rattle.definitions.specs.Searches.{given, LabelChain, Labels, Nexts}
 use Rattle.definitions.proofs.Fixpoint.{Lawful}
 use Rattle.definitions.proofs.Following.{tight_labels, labels_tight}
 use Rattle.definitions.proofs.Lawfuls.{Value}
+use Rattle.definitions.proofs.Givens.{made, made_via, via_made}
 
 -- tests on what may be there
 abbrev pub none_or : {X : Type 0} → Option X → (X → Bool) → Bool
@@ -42,20 +43,6 @@ pub record Sheet : Type 0 where
   pub values : List (Option ℕ)
   pub steps : List (Option ℕ)
   pub nexts : List (Option ℕ)
-
--- What the link makes of the value b, by the recovery values r.
-abbrev pub made : Scale → (ℕ → Option ℕ) → ℕ → Link → ℕ → Option ℕ
-made m r k l b = elim (r k) [ None ↦ None | Some x ↦ Some (worse m x (m.extend b l.figure)) ]
-
-pub made_via : (m : Scale) (r : ℕ → Option ℕ) (k : ℕ) (l : Link) (b w : ℕ) → made m r k l b ≡ Some w → (given m r).via k l b w
-made_via m r k l b w e = go (r k) refl
-  where
-    go : (o : Option ℕ) → r k ≡ o → (given m r).via k l b w
-    go None q = absurd (none-some w (rw (q, made) at e))
-    go (Some x) q = (x, q, (let e' : ◌≡◌ {A = Option ℕ} (Some (worse m x (m.extend b l.figure))) (Some w) = rw (q, made) at e in cc))
-
-pub via_made : (m : Scale) (r : ℕ → Option ℕ) (k : ℕ) (l : Link) (b w : ℕ) → (given m r).via k l b w → made m r k l b ≡ Some w
-via_made m r k l b w (x, q, e) = rw (q, made) (ap Some (sym e))
 
 either_not : (a x : Bool) → (not a || x) ≡ true → a ≡ true → x ≡ true
 either_not true x h e = h

@@ -17,10 +17,10 @@ use Rattle.definitions.proofs.Fixpoint.{Lawful, label_best, label_none}
 use Rattle.definitions.proofs.Following.{next_label, steps_label, tight_labels, labels_tight}
 use Rattle.definitions.proofs.Layers.{without_limits, same_link}
 use Rattle.definitions.proofs.Lawfuls.{Value, plain_lawful, worst_lawful}
-use Rattle.definitions.proofs.Givens.{Recoveries, recoveries_lawful, worst_labels, worst_nexts, starts_lawful, plain_labels, plain_nexts, given_via, worst_via}
+use Rattle.definitions.proofs.Givens.{made, made_via, via_made, Recoveries, recoveries_lawful, worst_labels, worst_nexts, starts_lawful, plain_labels, plain_nexts, given_via, worst_via}
 use Rattle.definitions.proofs.Scales.{delay_laws, width_laws}
 use Rattle.definitions.proofs.Mains.{recovery_exists}
-use Rattle.definitions.proofs.Sheets.{some_and, some_and_at, every, every_at, Sheet, made, made_via, via_made, right?, Right, right, sheet_labels, sheet_nexts}
+use Rattle.definitions.proofs.Sheets.{some_and, some_and_at, every, every_at, Sheet, right?, Right, right, sheet_labels, sheet_nexts}
 
 -- Finding the labels. Nothing is proved of this: what it finds is tested.
 
