@@ -1,13 +1,12 @@
 -- Recovery values, guarantees, held routes and backups exist, with no hypothesis but the limits and the laws.
-use Rattle.std.proofs.Common.{◌≡◌, ℕ, List, Some, None, Option, sym, refl, ap, ◌∙◌, arith}
-use Rattle.std.proofs.lemmas.Option.{none-some}
+use Rattle.std.proofs.Common.{ℕ, List, Some, None, Option, sym, ap, ◌∙◌}
 use Rattle.definitions.specs.declared.Link.{Link}
 use Rattle.definitions.specs.Networks.{Net, Limits, place, risks, at_risk}
-use Rattle.definitions.specs.Measures.{Scale, Laws, worse}
+use Rattle.definitions.specs.Measures.{Scale, Laws}
 use Rattle.definitions.specs.Routes.{Next, Held}
 use Rattle.definitions.specs.Plans.{plain, worst, Recovery, Guarantee, Backup}
 use Rattle.definitions.specs.Searches.{given, Labels, Nexts}
-use Rattle.definitions.proofs.Fixpoint.{label_best, label_none, best_label}
+use Rattle.definitions.proofs.Fixpoint.{label_best, label_none}
 use Rattle.definitions.proofs.Layers.{without_limits}
 use Rattle.definitions.proofs.Lawfuls.{Value, plain_lawful, worst_lawful}
 use Rattle.definitions.proofs.Following.{best_held}

@@ -1,6 +1,6 @@
 -- Every network has best values and next links to every destination: a search by hand, with no heap.
 use Rattle.std.proofs.Common.{◌≡◌, ℕ, zero, suc, ◌<◌, ◌≤◌, true, cond, eqb, ◌⊎◌, List, [], ◌∷◌, length, Some, None, Option, sym, refl, ap, ◌∙◌, subst, inl, inr, arith}
-use mathlib.Core.Logic.{∥∥₁_elim, ∥∥₁_map}
+use mathlib.Core.Logic.{∥∥₁_elim}
 use mathlib.Core.HLevel.{⊥_prop}
 use native.Mathlib.Decide.{ℕ_discrete}
 use Rattle.std.proofs.lemmas.Option.{none-some}
@@ -11,7 +11,7 @@ use Rattle.definitions.specs.Measures.{Scale, Laws}
 use Rattle.definitions.specs.Routes.{Valuation, Tight, count_tight}
 use Rattle.definitions.specs.Plans.{plain}
 use Rattle.definitions.specs.Searches.{LabelChain, Labels, Nexts, Running}
-use Rattle.definitions.proofs.Fixpoint.{Lawful, itself, met_fits}
+use Rattle.definitions.proofs.Fixpoint.{Lawful}
 use Rattle.definitions.proofs.Layers.{same_link, inside}
 use Rattle.definitions.proofs.Lawfuls.{Value, plain_lawful, Any, count_lawful}
 use Rattle.definitions.proofs.Following.{tight_labels, labels_tight}

@@ -5,7 +5,7 @@ use Rattle.std.proofs.lemmas.Option.{none-some}
 use Rattle.std.proofs.lemmas.Bool.{and_parts, or_cases, eqb-true, eq-eqb, leb-true, both_ways}
 use Rattle.definitions.specs.declared.Link.{Link}
 use Rattle.definitions.specs.Networks.{Net, Holds, place}
-use Rattle.definitions.specs.Measures.{Scale, worse}
+use Rattle.definitions.specs.Measures.{Scale}
 use Rattle.definitions.specs.Searches.{given, LabelChain, Labels, Nexts}
 use Rattle.definitions.proofs.Fixpoint.{Lawful}
 use Rattle.definitions.proofs.Following.{tight_labels, labels_tight}

@@ -8,7 +8,7 @@ use Rattle.std.proofs.lemmas.Option.{none-some}
 use Rattle.definitions.specs.declared.Link.{Link}
 use Rattle.definitions.specs.Networks.{Net, AllSound, Sound, place, listed}
 use Rattle.networks.specs.declared.draft.DraftFault.{DraftFault}
-use Rattle.networks.specs.declared.draft.DraftFault.TheVariants.{NodeCount, NoMemory}
+use Rattle.networks.specs.declared.draft.DraftFault.TheVariants.{NoMemory}
 use Rattle.networks.specs.Drafts.{refusal, first_refusal, network_fault, or_else, or_memory, Added, answered}
 
 pub sound_push : (nodes : ℕ) (ls : List Link) (l : Link) → AllSound (listed nodes ls) → Sound nodes l → AllSound (listed nodes (ls ++ (l ∷ [])))
