@@ -11,7 +11,7 @@ use Rattle.definitions.specs.Routes.{Valuation, Route, RouteValue, Best, Tight, 
 use Rattle.definitions.specs.Searches.{LabelChain, Labels, Nexts}
 use Rattle.definitions.proofs.Fixpoint.{Lawful, past_start, best_one, label_best, best_label, label_bound}
 use Rattle.definitions.proofs.Lawfuls.{count_lawful, Any}
-use Rattle.definitions.proofs.Layers.{same_link}
+use Rattle.definitions.proofs.Layers.{same_at}
 
 -- A route with a value is a route.
 pub value_route : (ρ : Valuation) (net : Net) (t u : ℕ) (ks : List ℕ) (w : ℕ) → RouteValue ρ net t u ks w → Route net t u ks
@@ -43,9 +43,8 @@ module _ (ρ : Valuation) (net : Net) (t : ℕ) where
   held_one u (k ∷ ks) [] (l, K, p) q = absurd (next_away u k l K q)
   held_one u (k ∷ ks) (j ∷ js) (l, K, p) (i, J, q) =
       let e = next_one u k j l i K J in
-      let h : Holds net k i = subst (λ x. Holds net x i) (sym e) J.holds in
-      let f = same_link net k l i K.holds h in
-      let q' : Held ρ net t l.head js = subst (λ x. Held ρ net t x.head js) (sym f) q in
+      let f = same_at net j k i l (sym e) J.holds K.holds in
+      let q' : Held ρ net t l.head js = subst (λ x. Held ρ net t x.head js) f q in
       let r = held_one l.head ks js p q' in
       cc
 

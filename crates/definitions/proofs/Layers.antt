@@ -51,6 +51,13 @@ route_layer gone net t u (k ∷ ks) (l, h, e, r) (safe, c) = (l, above gone net 
 pub same_link : (net : Net) (k : ℕ) (l i : Link) → Holds net k l → Holds net k i → l ≡ i
 same_link net k l i p q = cc
 
+pub same_at : (net : Net) (j k : ℕ) (i l : Link) → j ≡ k → Holds net j i → Holds net k l → i ≡ l
+same_at net j k i l z p q = cc
+
+-- What is so of the link at one place is so wherever that place and its link are named.
+pub so_at : (net : Net) (P : ℕ → Link → Type 0) (j k : ℕ) (i l : Link) → j ≡ k → Holds net j i → Holds net k l → P k l → P j i
+so_at net P j k i l z p q x = subst (λ y. P y i) (sym z) (subst (P k) (sym (same_at net j k i l z p q)) x)
+
 -- What the layer "at risk with k" holds at j: nothing at k, nothing at a link that shares a group, and else what was there.
 pub risk_same : (net : Net) (k j : ℕ) → j ≡ k → place (at_risk k net).places j ≡ None
 risk_same net k j e = place_emptied (risks net k) net.places j ∙ cond-true _ _ _ (or_left (eqb j k) _ (eq-eqb j k e))

@@ -11,7 +11,7 @@ use Rattle.definitions.specs.Measures.{Scale, Laws, worse}
 use Rattle.definitions.specs.Routes.{Valuation, Route, RouteValue, Best, Steps, Next, Held}
 use Rattle.definitions.specs.Plans.{plain, worst, Recovery, Guarantee, Backup, Traced, arrived, onward, turned}
 use Rattle.definitions.proofs.Fixpoint.{best_one, best_fits, itself, value_fits}
-use Rattle.definitions.proofs.Layers.{below, above, same_link, without_limits}
+use Rattle.definitions.proofs.Layers.{below, above, same_link, same_at, without_limits}
 use Rattle.definitions.proofs.Lawfuls.{Value, plain_lawful, worst_lawful, worse_fits, worse_left, worse_right, worse_one, recovery_fits}
 use Rattle.definitions.proofs.Following.{steps_one, steps_held, held_value, best_at_end, next_one, next_away, held_one}
 
@@ -153,7 +153,7 @@ module _ (m : Scale) (M : Laws m) (net : Net) (N : Limits net) (t : ℕ) where
   near_spares n k l Nothing p h S = refl
   near_spares n k l (OneLink j) (i, s, hi, Si, le) h S =
       ne_eqb k j (λ e.
-      let q : i ≡ l = same_link net k i l (subst (λ x. Holds net x i) (sym e) hi) h in
+      let q : i ≡ l = same_at net j k i l (sym e) hi h in
       let z : s ≡ suc n = steps_one (worst m net t) net t l.tail s (suc n) (subst (λ x. Steps (worst m net t) net t x.tail s) q Si) S in
       omega arith)
   near_spares n k l (OneGroup b) p h S = absurd p
@@ -208,8 +208,8 @@ module _ (m : Scale) (net : Net) (t : ℕ) where
   traced_one fails u ks js (turned {k = k} {l = l} K e B) (arrived q) = absurd (next_away (worst m net t) net t u k l K q)
   traced_one fails u ks js (onward {k = k} {l = l} {ks = k1} K e r) (onward {k = j} {l = i} {ks = k2} J f s) =
       let q = next_one (worst m net t) net t u k j l i K J in
-      let z = same_link net k l i K.holds (subst (λ x. Holds net x i) (sym q) J.holds) in
-      let s' : Traced m net t fails l.head k2 = subst (λ x. Traced m net t fails x.head k2) (sym z) s in
+      let z = same_at net j k i l (sym q) J.holds K.holds in
+      let s' : Traced m net t fails l.head k2 = subst (λ x. Traced m net t fails x.head k2) z s in
       let y = traced_one fails l.head k1 k2 r s' in
       cc
   traced_one fails u ks js (onward {k = k} {l = l} K e r) (turned {k = j} {l = i} J f B) =
