@@ -148,7 +148,6 @@ module _ (ρ : Valuation) (net : Net) (N : Limits net) (t : ℕ) (Fit : ℕ → 
 
       via_last : (k : ℕ) (l : Link) (b w : ℕ) → l.head ≡ u → d l.head ≡ Some b → ρ.via k l b w → ρ.via k l last w
       via_last k l b w p hb m =
-          let hl : d l.head ≡ Some last = ap d p ∙ now in
           let same : b ≡ last = cc in
           subst (λ x. ρ.via k l x w) same m
 

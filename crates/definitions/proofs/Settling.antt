@@ -119,7 +119,6 @@ module _ (ρ : Valuation) (net : Net) (t : ℕ) (Fit : ℕ → Type 0) (L : Lawf
         newest = ∣ (u, now) ∣₁;
         behind = λ x a e. elim (ℕ_discrete x u) [
           | yes p ↦
-              let e' : done' u ≡ Some a = subst (λ y. done' y ≡ Some a) p e in
               let z : w ≡ a = cc in
               subst (λ y. ρ.no_worse y w ≡ true) z (itself ρ net t Fit L w fw)
           | no n ↦ old_behind x a (sym (rest x n) ∙ e)
@@ -131,7 +130,6 @@ module _ (ρ : Valuation) (net : Net) (t : ℕ) (Fit : ℕ → Type 0) (L : Lawf
             elim (ℕ_discrete l.tail u) [
               | no z ↦ R.kept k l b v a h (due k l) n q' mk (sym (rest l.tail z) ∙ e)
               | yes z ↦
-                  let e' : done' u ≡ Some a = subst (λ y. done' y ≡ Some a) z e in
                   let wa : w ≡ a = cc in
                   let none : done l.tail ≡ None = ap done z ∙ fresh in
                   subst (λ y. ρ.no_worse y v ≡ true) wa (least v l.tail (R.waits k l b v h (due k l) n q' mk none))

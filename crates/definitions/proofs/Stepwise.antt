@@ -25,7 +25,7 @@ module _ (ρ : Valuation) (net : Net) (t : ℕ) where
   begins s nx e o = record {
     none_at_t = e;
     behind = λ u a q. elim (ℕ_discrete u t) [
-      | yes p ↦ (let y : s u ≡ Some 0 = ap s p ∙ e in let z : a ≡ 0 = cc in omega arith)
+      | yes p ↦ (let z : a ≡ 0 = cc in omega arith)
       | no n ↦ absurd (not_both (s u) a q (o u n))
     ];
     ahead = λ n k q. absurd q;
@@ -88,7 +88,7 @@ module _ (ρ : Valuation) (net : Net) (t : ℕ) where
       settles s' nx' fresh now nxt rest restn due = record {
         none_at_t = keeps t 0 R.none_at_t;
         behind = λ x a e. elim (ℕ_discrete x l.tail) [
-          | yes p ↦ (let e' : s' l.tail ≡ Some a = subst (λ y. s' y ≡ Some a) p e in let z : a ≡ n = cc in omega arith)
+          | yes p ↦ (let z : a ≡ n = cc in omega arith)
           | no q ↦ (let z : a ≤ last = R.behind x a (sym (rest x q) ∙ e) in let y : last ≤ n = R.ahead n k here in omega arith)
         ];
         ahead = λ m j i. elim (least m j (fewer m j i)) [ inl p ↦ omega arith | inr p ↦ omega arith ];
@@ -103,13 +103,11 @@ module _ (ρ : Valuation) (net : Net) (t : ℕ) where
                   let (le, lo) = R.kept j i c a hj (due j i) T q' (sym (rest i.tail z) ∙ e) in
                   (le, λ x ax nxx. lo x ax (sym (restn i.tail z) ∙ nxx))
               | yes z ↦
-                  let e' : s' l.tail ≡ Some a = subst (λ y. s' y ≡ Some a) z e in
                   let an : a ≡ n = cc in
                   let none : s i.tail ≡ None = ap s z ∙ fresh in
                   let w = least (suc c) j (R.waits j i c hj (due j i) T q' none) in (
                     elim w [ inl p ↦ omega arith | inr p ↦ omega arith ],
                     λ x ax nxx.
-                        let y : nx' l.tail ≡ Some x = subst (λ y. nx' y ≡ Some x) z nxx in
                         let xk : x ≡ k = cc in
                         elim w [ inl p ↦ absurd (omega arith) | inr p ↦ omega arith ],
                   )
@@ -133,7 +131,6 @@ module _ (ρ : Valuation) (net : Net) (t : ℕ) where
             | yes p ↦
                 (let (o, c, ho, To, so, z) = R.origin n k here in
                 let y : o ≡ l = same_link net k o l ho h in
-                let e' : s' l.tail ≡ Some a = subst (λ y. s' y ≡ Some a) p e in
                 let an : a ≡ n = cc in
                 (k, l, c, ap nx' p ∙ nxt, h, sym p, subst (λ x. Tight ρ net t k x) y To, keeps l.head c (subst (λ x. s x.head ≡ Some c) y so), an ∙ z))
           ]
