@@ -6,7 +6,7 @@ use native.Mathlib.Decide.{ℕ_discrete}
 use Rattle.std.proofs.lemmas.Option.{none-some}
 use Rattle.std.proofs.lemmas.Bool.{le-leb, cases_order}
 use Rattle.definitions.specs.declared.Link.{Link}
-use Rattle.definitions.specs.Networks.{Net, Holds}
+use Rattle.definitions.specs.Networks.{Net}
 use Rattle.definitions.specs.Routes.{Valuation, Route, RouteValue, Best, Tight, count_tight, Steps, Next, Held}
 use Rattle.definitions.specs.Searches.{LabelChain, Labels, Nexts}
 use Rattle.definitions.proofs.Fixpoint.{Lawful, past_start, best_one, label_best, best_label, label_bound}
