@@ -1,20 +1,53 @@
 -- Every network has best values and next links to every destination: a search by hand, with no heap.
 use Rattle.std.proofs.Common.{◌≡◌, ℕ, zero, suc, ◌<◌, ◌≤◌, true, cond, eqb, ◌⊎◌, List, [], ◌∷◌, length, Some, None, Option, sym, refl, ap, ◌∙◌, subst, inl, inr, arith}
-use mathlib.Core.Logic.{∥∥₁_elim, ∥∥₁_map}
+use mathlib.Core.Logic.{∥∥₁_elim}
 use mathlib.Core.HLevel.{⊥_prop}
 use native.Mathlib.Decide.{ℕ_discrete}
+use Rattle.std.proofs.lemmas.Option.{none-some}
 use Rattle.std.proofs.lemmas.Bool.{cond-true, cond-false, eq-eqb, ne_eqb, leb-true, cases_lt}
 use Rattle.definitions.specs.declared.Link.{Link}
 use Rattle.definitions.specs.Networks.{Net, Holds, Limits, place}
 use Rattle.definitions.specs.Measures.{Scale, Laws}
 use Rattle.definitions.specs.Routes.{Valuation, Tight, count_tight}
 use Rattle.definitions.specs.Plans.{plain}
-use Rattle.definitions.specs.Searches.{LabelChain, Labels, Nexts}
-use Rattle.definitions.proofs.Fixpoint.{Lawful, itself, met_fits}
-use Rattle.definitions.proofs.Layers.{same_link, place_past}
+use Rattle.definitions.specs.Searches.{LabelChain, Labels, Nexts, Running}
+use Rattle.definitions.proofs.Fixpoint.{Lawful}
+use Rattle.definitions.proofs.Layers.{same_link, inside}
 use Rattle.definitions.proofs.Lawfuls.{Value, plain_lawful, Any, count_lawful}
 use Rattle.definitions.proofs.Following.{tight_labels, labels_tight}
-use Rattle.definitions.proofs.Settling.{not_both, chain_grow}
+use Rattle.definitions.proofs.Settling.{not_both, begins, done_fits, in_fits, settles, ends}
+
+-- Of the numbers that the first n places offer, one that comes before all, or there is none.
+module _ (Offers : ℕ → ℕ → Type 0) (le : ℕ → ℕ → Type 0) where
+  abbrev Least : ℕ → Type 0
+  Least n = (k : ℕ) × (a : ℕ) × (k < n) × Offers k a × ((j b : ℕ) → j < n → Offers j b → le a b)
+
+  abbrev NoOffer : ℕ → Type 0
+  NoOffer n = (j b : ℕ) → j < n → Offers j b → ⊥
+
+  -- what is so of each offer below n, and at n, is so of each below suc n
+  one_more : (n : ℕ) (P : ℕ → Type 0) → ((j b : ℕ) → j < n → Offers j b → P b) → ((b : ℕ) → Offers n b → P b) → (j b : ℕ) → j < suc n → Offers j b → P b
+  one_more n P below at j b lt x = elim (ℕ_discrete j n) [ yes p ↦ at b (subst (λ i. Offers i b) p x) | no p ↦ below j b (omega arith) x ]
+
+  module _ (either : (i j a b : ℕ) → Offers i a → Offers j b → le a b ⊎ le b a)
+      (chains : (i j k a b c : ℕ) → Offers i a → Offers j b → Offers k c → le a b → le b c → le a c)
+      (one : (k a b : ℕ) → Offers k a → Offers k b → a ≡ b)
+      (here : (k : ℕ) → ((a : ℕ) × Offers k a) ⊎ ((a : ℕ) → Offers k a → ⊥)) where
+    only : (n a : ℕ) → Offers n a → (b : ℕ) → Offers n b → le a b
+    only n a x b y = subst (le a) (one n a b x y) (elim (either n n a a x x) [ inl p ↦ p | inr p ↦ p ])
+
+    least : (n : ℕ) → Least n ⊎ NoOffer n
+    least zero = inr (λ j b lt x. omega arith)
+    least (suc n) = join (least n) (here n)
+      where
+        join : Least n ⊎ NoOffer n → ((a : ℕ) × Offers n a) ⊎ ((a : ℕ) → Offers n a → ⊥) → Least (suc n) ⊎ NoOffer (suc n)
+        join (inr A) (inr B) = inr (one_more n (λ b. ⊥) A B)
+        join (inl (k, a, lt, x, low)) (inr B) = inl (k, a, omega arith, x, one_more n (le a) low (λ b y. absurd (B b y)))
+        join (inr A) (inl (a, x)) = inl (n, a, omega arith, x, one_more n (le a) (λ j b lj y. absurd (A j b lj y)) (only n a x))
+        join (inl (k, a, lt, x, low)) (inl (c, y)) = elim (either k n a c x y) [
+          | inl p ↦ inl (k, a, omega arith, x, one_more n (le a) low (λ b z. subst (le a) (one n c b y z) p))
+          | inr p ↦ inl (n, c, omega arith, y, one_more n (le c) (λ j b lj z. chains n k j c a b y x z p (low j b lj z)) (only n c y))
+        ]
 
 -- the labels d, and w at u
 abbrev put : (ℕ → Option ℕ) → ℕ → ℕ → ℕ → Option ℕ
@@ -76,262 +109,114 @@ module _ (ρ : Valuation) (net : Net) (N : Limits net) (t : ℕ) (Fit : ℕ → 
       let y = via_made k l b w q' in
       cc
 
-  -- Labels that are settled in rising order, the last of them `last`.
-  record Front (d : ℕ → Option ℕ) (last : ℕ) : Type 0 where
-    at_t : d t ≡ Some ρ.start
-    met : (u a : ℕ) → d u ≡ Some a → ∥ ((ks : List ℕ) × LabelChain ρ net t d u ks) ∥₁
-    fits : Fit last
-    behind : (u a : ℕ) → d u ≡ Some a → ρ.no_worse a last ≡ true
-    ahead : (k : ℕ) (l : Link) (w : ℕ) → Holds net k l → Offered d k l w → ρ.no_worse last w ≡ true
-    kept : (k : ℕ) (l : Link) (b w a : ℕ) → Holds net k l → d l.head ≡ Some b → ρ.via k l b w → d l.tail ≡ Some a → (l.tail ≡ t → ⊥) → ρ.no_worse a w ≡ true
+  -- The search under way, where each link is offered at once: what waits is what the links offer.
+  abbrev Waits : (ℕ → Option ℕ) → ℕ → ℕ → Type 0
+  Waits d w u = (k : ℕ) × (l : Link) × Holds net k l × (l.tail ≡ u) × Offered d k l w
+
+  abbrev All : ℕ → Link → Type 0
+  All k l = Unit {0}
+
+  abbrev Front : (ℕ → Option ℕ) → ℕ → Type 0
+  Front d last = Running ρ net t d (Waits d) All last
+
+  -- now also the links into the node that was settled last
+  all_offered : (d : ℕ → Option ℕ) (In : ℕ → ℕ → Type 0) (u last : ℕ) → d u ≡ Some last → Running ρ net t d In (λ k l. l.head ≡ u → ⊥) last → Front d last
+  all_offered d In u last now R = record {
+    at_t = R.at_t;
+    met = R.met;
+    newest = R.newest;
+    behind = R.behind;
+    ahead = λ w x (k, l, h, f, (b, n, hb, m)). elim (ℕ_discrete l.head u) [
+      | yes p ↦ L.never_better k l last w h fit_last (via_last k l b w p hb m)
+      | no p ↦ R.ahead w l.tail (R.waits k l b w h p (λ q. not_both (d l.tail) ρ.start (ap d q ∙ R.at_t) n) hb m n)
+    ];
+    origin = λ w x (k, l, h, f, (b, n, hb, m)). ∣ (k, l, b, h, f, hb, m) ∣₁;
+    kept = λ k l b w a h du n hb m e. elim (ℕ_discrete l.head u) [
+      | yes p ↦
+          let m' = via_last k l b w p hb m in
+          L.chains a last w (fits l.tail a e) fit_last (L.via_fits k l last w h fit_last m') (R.behind l.tail a e) (L.never_better k l last w h fit_last m')
+      | no p ↦ R.kept k l b w a h p n hb m e
+    ];
+    waits = λ k l b w h du n hb m e. (k, l, h, refl, (b, e, hb, m));
+  }
+    where
+      fits : (x a : ℕ) → d x ≡ Some a → Fit a
+      fits x a e = done_fits ρ net t Fit L d In (λ k l. l.head ≡ u → ⊥) last R x a e
+
+      fit_last : Fit last
+      fit_last = fits u last now
+
+      via_last : (k : ℕ) (l : Link) (b w : ℕ) → l.head ≡ u → d l.head ≡ Some b → ρ.via k l b w → ρ.via k l last w
+      via_last k l b w p hb m =
+          let same : b ≡ last = cc in
+          subst (λ x. ρ.via k l x w) same m
 
   -- t alone has a label
   abbrev first : ℕ → Option ℕ
   first = put (λ x. None) t ρ.start
 
-  first_only : (u a : ℕ) → first u ≡ Some a → u ≡ t
-  first_only u a e = elim (ℕ_discrete u t) [ yes p ↦ p | no n ↦ absurd (not_both (first u) a e (put_there (λ x. None) t ρ.start u n)) ]
-
-  first_start : (u a : ℕ) → first u ≡ Some a → a ≡ ρ.start
-  first_start u a e = let h : first u ≡ Some ρ.start = put_here (λ x. None) t ρ.start u (first_only u a e) in cc
-
-  begins : Front first ρ.start
-  begins = record {
-    at_t = put_here (λ x. None) t ρ.start t refl;
-    met = λ u a e. ∣ ([], first_only u a e) ∣₁;
-    fits = L.start_fits;
-    behind = λ u a e. rw (first_start u a e) (itself ρ net t Fit L ρ.start L.start_fits);
-    ahead = λ k l w h (b, n, e, m). rw (first_start l.head b e) at (L.never_better k l b w h (rw (first_start l.head b e) L.start_fits) m);
-    kept = λ k l b w a h e m q n. absurd (n (first_only l.tail a q));
-  }
+  front_first : Front first ρ.start
+  front_first =
+      let now = put_here (λ x. None) t ρ.start t refl in
+      all_offered first (λ w u. ⊥) t ρ.start now (begins ρ net t Fit L first now (λ u n. put_there (λ x. None) t ρ.start u n))
 
   module _ (d : ℕ → Option ℕ) (last : ℕ) (F : Front d last) where
-    label_fit : (u a : ℕ) → d u ≡ Some a → Fit a
-    label_fit u a e = met_fits ρ net t Fit L d F.at_t u a e (F.met u a e)
+    -- what the link at k offers
+    abbrev Offer : ℕ → ℕ → Type 0
+    Offer k w = (l : Link) × Holds net k l × Offered d k l w
 
-    offered_fit : (k : ℕ) (l : Link) (w : ℕ) → Holds net k l → Offered d k l w → Fit w
-    offered_fit k l w h (b, n, e, m) = L.via_fits k l b w h (label_fit l.head b e) m
+    offer_fit : (k w : ℕ) → Offer k w → Fit w
+    offer_fit k w (l, h, q) = in_fits ρ net t Fit L d (Waits d) All last F w l.tail (k, l, h, refl, q)
 
-    -- the best offer of the first n places, or none
-    abbrev BestOffer : ℕ → Type 0
-    BestOffer n = (k : ℕ) × (l : Link) × (w : ℕ) × Holds net k l × Offered d k l w ×
-        ((j : ℕ) (o : Link) (v : ℕ) → j < n → Holds net j o → Offered d j o v → ρ.no_worse w v ≡ true)
+    offer_one : (k v w : ℕ) → Offer k v → Offer k w → v ≡ w
+    offer_one k v w (l, h, p) (o, g, q) = offered_one d k l v w p (subst (λ x. Offered d k x w) (same_link net k o l g h) q)
 
-    abbrev NoOffer : ℕ → Type 0
-    NoOffer n = (j : ℕ) (o : Link) (v : ℕ) → j < n → Holds net j o → Offered d j o v → ⊥
+    abbrev OfferOrNot : ℕ → Type 0
+    OfferOrNot k = ((w : ℕ) × Offer k w) ⊎ ((w : ℕ) → Offer k w → ⊥)
 
-    abbrev Here : ℕ → Type 0
-    Here n = ((l : Link) × (w : ℕ) × Holds net n l × Offered d n l w) ⊎ ((o : Link) (v : ℕ) → Holds net n o → Offered d n o v → ⊥)
-
-    here : (n : ℕ) → Here n
-    here n = at (place net.places n) refl
+    offer? : (k : ℕ) → OfferOrNot k
+    offer? k = at (place net.places k) refl
       where
-        at : (o : Option Link) → place net.places n ≡ o → Here n
-        at None e = inr (λ l v h q. let z : ◌≡◌ {A = ℕ} 0 1 = cc in omega arith)
+        at : (o : Option Link) → place net.places k ≡ o → OfferOrNot k
+        at None e = inr (λ w (l, h, q). none-some l (sym e ∙ h))
         at (Some l) e = tail (d l.tail) refl
           where
-            same : (o : Link) → Holds net n o → o ≡ l
-            same o h = same_link net n o l h e
+            by_l : (w : ℕ) → Offer k w → Offered d k l w
+            by_l w (o, h, q) = subst (λ x. Offered d k x w) (same_link net k o l h e) q
 
-            tail : (x : Option ℕ) → d l.tail ≡ x → Here n
-            tail (Some a) p = inr (λ o v h q. not_both (d l.tail) a p (subst (λ y. d y.tail ≡ None) (same o h) q.1))
+            tail : (x : Option ℕ) → d l.tail ≡ x → OfferOrNot k
+            tail (Some a) p = inr (λ w o. not_both (d l.tail) a p (by_l w o).1)
             tail None p = head (d l.head) refl
               where
-                head : (x : Option ℕ) → d l.head ≡ x → Here n
-                head None q = inr (λ o v h r. not_both (d l.head) r.0 (subst (λ y. d y.head ≡ Some r.0) (same o h) r.2) q)
-                head (Some b) q = makes (made n l b) refl
+                head : (x : Option ℕ) → d l.head ≡ x → OfferOrNot k
+                head None q = inr (λ w o. let (b, n, hb, m) = by_l w o in not_both (d l.head) b hb q)
+                head (Some b) q = makes (made k l b) refl
                   where
-                    makes : (x : Option ℕ) → made n l b ≡ x → Here n
-                    makes (Some w) r = inl (l, w, e, (b, p, q, made_via n l b w r))
-                    makes None r = inr (λ o v h z.
-                        let z' : Offered d n l v = subst (λ y. Offered d n y v) (same o h) z in
-                        let eb : z'.0 ≡ b = (let hz = z'.2 in cc) in
-                        let m : ρ.via n l b v = subst (λ y. ρ.via n l y v) eb z'.3 in
-                        not_both (made n l b) v (via_made n l b v m) r)
+                    makes : (x : Option ℕ) → made k l b ≡ x → OfferOrNot k
+                    makes (Some w) r = inl (w, (l, e, (b, p, q, made_via k l b w r)))
+                    makes None r = inr (λ w o.
+                        let (c, n, hc, m) = by_l w o in
+                        let same : c ≡ b = cc in
+                        not_both (made k l b) w (via_made k l b w (subst (λ x. ρ.via k l x w) same m)) r)
 
-    best_offer : (n : ℕ) → BestOffer n ⊎ NoOffer n
-    best_offer zero = inr (λ j o v lt h q. omega arith)
-    best_offer (suc n) = join (best_offer n) (here n)
-      where
-        older : (j : ℕ) → j < suc n → (j ≡ n → ⊥) → j < n
-        older j lt ne = omega arith
+    abbrev NoWorse : ℕ → ℕ → Type 0
+    NoWorse v w = ρ.no_worse v w ≡ true
 
-        join : BestOffer n ⊎ NoOffer n → Here n → BestOffer (suc n) ⊎ NoOffer (suc n)
-        join (inr A) (inr B) = inr (λ j o v lt h q. elim (ℕ_discrete j n) [
-          | yes p ↦ B o v (subst (λ x. Holds net x o) p h) (subst (λ x. Offered d x o v) p q)
-          | no p ↦ A j o v (older j lt p) h q
-        ])
-        join (inl (k, l, w, hk, ok, least)) (inr B) = inl (
-          k,
-          l,
-          w,
-          hk,
-          ok,
-          λ j o v lt h q. elim (ℕ_discrete j n) [
-            | yes p ↦ absurd (B o v (subst (λ x. Holds net x o) p h) (subst (λ x. Offered d x o v) p q))
-            | no p ↦ least j o v (older j lt p) h q
-          ],
-        )
-        join (inr A) (inl (l, w, hl, ol)) = inl (
-          n,
-          l,
-          w,
-          hl,
-          ol,
-          λ j o v lt h q. elim (ℕ_discrete j n) [
-            | yes p ↦ same j o v p h q
-            | no p ↦ absurd (A j o v (older j lt p) h q)
-          ],
-        )
-          where
-            same : (j : ℕ) (o : Link) (v : ℕ) → j ≡ n → Holds net j o → Offered d j o v → ρ.no_worse w v ≡ true
-            same j o v p h q =
-                let h' : Holds net n o = subst (λ x. Holds net x o) p h in
-                let q' : Offered d n o v = subst (λ x. Offered d x o v) p q in
-                let q'' : Offered d n l v = subst (λ x. Offered d n x v) (same_link net n o l h' hl) q' in
-                subst (λ x. ρ.no_worse w x ≡ true) (offered_one d n l w v ol q'') (itself ρ net t Fit L w (offered_fit n l w hl ol))
-        join (inl (k, l, w, hk, ok, least)) (inl (i, x, hi, oi)) = elim (L.one_is w x fw fx) [
-          | inl le ↦ inl (
-            k,
-            l,
-            w,
-            hk,
-            ok,
-            λ j o v lt h q. elim (ℕ_discrete j n) [
-              | yes p ↦ subst (λ y. ρ.no_worse w y ≡ true) (one j o v p h q) le
-              | no p ↦ least j o v (older j lt p) h q
-            ],
-          )
-          | inr le ↦ inl (
-            n,
-            i,
-            x,
-            hi,
-            oi,
-            λ j o v lt h q. elim (ℕ_discrete j n) [
-              | yes p ↦ subst (λ y. ρ.no_worse x y ≡ true) (one j o v p h q) (itself ρ net t Fit L x fx)
-              | no p ↦ L.chains x w v fx fw (offered_fit j o v h q) le (least j o v (older j lt p) h q)
-            ],
-          )
-        ]
-          where
-            fw : Fit w
-            fw = offered_fit k l w hk ok
+    best_offer : Least Offer NoWorse (length net.places) ⊎ NoOffer Offer NoWorse (length net.places)
+    best_offer = least Offer NoWorse (λ i j a b x y. L.one_is a b (offer_fit i a x) (offer_fit j b y))
+        (λ i j k a b c x y z. L.chains a b c (offer_fit i a x) (offer_fit j b y) (offer_fit k c z)) offer_one offer? (length net.places)
 
-            fx : Fit x
-            fx = offered_fit n i x hi oi
+    -- without an offer the search has ended, and else the best offer is settled
+    ended : NoOffer Offer NoWorse (length net.places) → Labels ρ net t d
+    ended A = ends ρ net t Fit L d (Waits d) All last F (λ w u (k, l, h, f, o). A k w (inside net k l h) (l, h, o)) (λ k l. tt)
 
-            one : (j : ℕ) (o : Link) (v : ℕ) → j ≡ n → Holds net j o → Offered d j o v → x ≡ v
-            one j o v p h q =
-                let h' : Holds net n o = subst (λ y. Holds net y o) p h in
-                let q' : Offered d n o v = subst (λ y. Offered d y o v) p q in
-                offered_one d n i x v oi (subst (λ y. Offered d n y v) (same_link net n o i h' hi) q')
-
-    within : (k : ℕ) (l : Link) → Holds net k l → k < length net.places
-    within k l h = elim (cases_lt k (length net.places)) [
-      | inl p ↦ p
-      | inr p ↦ (let z = place_past net.places k p in let y : ◌≡◌ {A = ℕ} 0 1 = cc in absurd (omega arith))
-    ]
-
-    ends : NoOffer (length net.places) → Labels ρ net t d
-    ends A = record {
-      at_t = F.at_t;
-      met = F.met;
-      relaxed = λ k l b w h n e m. go k l b w h n e m (d l.tail) refl;
-    }
-      where
-        go : (k : ℕ) (l : Link) (b w : ℕ) → Holds net k l → (l.tail ≡ t → ⊥) → d l.head ≡ Some b → ρ.via k l b w →
-            (o : Option ℕ) → d l.tail ≡ o → (a : ℕ) × (d l.tail ≡ Some a) × (ρ.no_worse a w ≡ true)
-        go k l b w h n e m None q = absurd (A k l w (within k l h) h (b, q, e, m))
-        go k l b w h n e m (Some a) q = (a, q, F.kept k l b w a h e m q n)
-
-    -- the best offer is settled
-    settles : (k : ℕ) (l : Link) (w : ℕ) → Holds net k l → Offered d k l w →
-        ((j : ℕ) (o : Link) (v : ℕ) → Holds net j o → Offered d j o v → ρ.no_worse w v ≡ true) → Front (put d l.tail w) w
-    settles k l w hk ok least = record {
-      at_t = keeps t ρ.start F.at_t;
-      met = met';
-      fits = fw;
-      behind = behind';
-      ahead = ahead';
-      kept = kept';
-    }
-      where
-        fresh : d l.tail ≡ None
-        fresh = ok.1
-
-        fw : Fit w
-        fw = offered_fit k l w hk ok
-
-        keeps : (x a : ℕ) → d x ≡ Some a → put d l.tail w x ≡ Some a
-        keeps x a e = elim (ℕ_discrete x l.tail) [
-          | yes p ↦ absurd (not_both (d x) a e (ap d p ∙ fresh))
-          | no n ↦ put_there d l.tail w x n ∙ e
-        ]
-
-        -- what has a label now had it before, or is the node just settled
-        was : (x a : ℕ) → put d l.tail w x ≡ Some a → (d x ≡ Some a) ⊎ ((x ≡ l.tail) × (w ≡ a))
-        was x a e = elim (ℕ_discrete x l.tail) [
-          | yes p ↦ inr (p, (let h = put_here d l.tail w x p in cc))
-          | no n ↦ inl (sym (put_there d l.tail w x n) ∙ e)
-        ]
-
-        -- what has none now had none before
-        none : (x : ℕ) → put d l.tail w x ≡ None → d x ≡ None
-        none x e = elim (ℕ_discrete x l.tail) [
-          | yes p ↦ ap d p ∙ fresh
-          | no n ↦ sym (put_there d l.tail w x n) ∙ e
-        ]
-
-        behind' : (x a : ℕ) → put d l.tail w x ≡ Some a → ρ.no_worse a w ≡ true
-        behind' x a e = elim (was x a e) [
-          | inl q ↦ L.chains a last w (label_fit x a q) F.fits fw (F.behind x a q) (F.ahead k l w hk ok)
-          | inr q ↦ subst (λ y. ρ.no_worse y w ≡ true) q.1 (itself ρ net t Fit L w fw)
-        ]
-
-        ahead' : (j : ℕ) (o : Link) (v : ℕ) → Holds net j o → Offered (put d l.tail w) j o v → ρ.no_worse w v ≡ true
-        ahead' j o v h (b, n, e, m) = elim (was o.head b e) [
-          | inl q ↦ least j o v h (b, none o.tail n, q, m)
-          | inr q ↦ L.never_better j o w v h fw (subst (λ y. ρ.via j o y v) (sym q.1) m)
-        ]
-
-        fit_now : (x a : ℕ) → put d l.tail w x ≡ Some a → Fit a
-        fit_now x a e = elim (was x a e) [ inl q ↦ label_fit x a q | inr q ↦ subst Fit q.1 fw ]
-
-        kept' : (j : ℕ) (o : Link) (b v a : ℕ) → Holds net j o → put d l.tail w o.head ≡ Some b → ρ.via j o b v →
-            put d l.tail w o.tail ≡ Some a → (o.tail ≡ t → ⊥) → ρ.no_worse a v ≡ true
-        kept' j o b v a h e m q n = elim (was o.head b e) [
-          | inr z ↦
-              let m' : ρ.via j o w v = subst (λ y. ρ.via j o y v) (sym z.1) m in
-              L.chains a w v (fit_now o.tail a q) fw (L.via_fits j o w v h fw m') (behind' o.tail a q) (L.never_better j o w v h fw m')
-          | inl z ↦ elim (was o.tail a q) [
-            | inl y ↦ F.kept j o b v a h z m y n
-            | inr y ↦ subst (λ x. ρ.no_worse x v ≡ true) y.1 (least j o v h (b, ap d y.0 ∙ fresh, z, m))
-          ]
-        ]
-
-        away : l.tail ≡ t → ⊥
-        away p = not_both (d l.tail) ρ.start (ap d p ∙ F.at_t) fresh
-
-        met' : (x a : ℕ) → put d l.tail w x ≡ Some a → ∥ ((ks : List ℕ) × LabelChain ρ net t (put d l.tail w) x ks) ∥₁
-        met' x a e = elim (was x a e) [
-          | inl q ↦ ∥∥₁_map (F.met x a q) (λ c. (c.0, chain_grow ρ net t d (put d l.tail w) keeps x c.0 c.1))
-          | inr q ↦ ∥∥₁_map (F.met l.head ok.0 ok.2) (λ c. (
-            k ∷ c.0,
-            (
-              l,
-              ok.0,
-              w,
-              hk,
-              sym q.0,
-              (λ z. away (sym q.0 ∙ z)),
-              keeps l.head ok.0 ok.2,
-              put_here d l.tail w x q.0,
-              ok.3,
-              chain_grow ρ net t d (put d l.tail w) keeps l.head c.0 c.1,
-            ),
-          ))
-        ]
+    front_next : (k : ℕ) (l : Link) (w : ℕ) → Holds net k l → Offered d k l w → ((j v : ℕ) → j < length net.places → Offer j v → NoWorse w v) → Front (put d l.tail w) w
+    front_next k l w h o low =
+        let now = put_here d l.tail w l.tail refl in
+        all_offered (put d l.tail w) (λ v x. Waits d v x × (x ≡ l.tail → ⊥)) l.tail w now
+        (settles ρ net t Fit L d (Waits d) All last F w l.tail (k, l, h, refl, o) (λ v x. Waits d v x × (x ≡ l.tail → ⊥))
+        (λ v x (j, i, hj, f, q). low j v (inside net j i hj) (i, hj, q)) (λ v x i. i.0) (λ v x n i. (i, n))
+        (put d l.tail w) o.1 now (λ x n. put_there d l.tail w x n) (λ j i. tt))
 
   undone_some : (d : ℕ → Option ℕ) (u n : ℕ) → d u ≡ None → u < n → 0 < undone d n
   undone_some d u n e lt = let z = undone_less d u 0 n e lt in omega arith
@@ -340,21 +225,19 @@ module _ (ρ : Valuation) (net : Net) (N : Limits net) (t : ℕ) (Fit : ℕ → 
   Found = (x : ℕ → Option ℕ) × Labels ρ net t x
 
   run : (fuel : ℕ) (d : ℕ → Option ℕ) (last : ℕ) → Front d last → undone d net.nodes ≤ fuel → Found
-  run zero d last F le = go (best_offer d last F (length net.places))
-    where
-      go : BestOffer d last F (length net.places) ⊎ NoOffer d last F (length net.places) → Found
-      go (inr A) = (d, ends d last F A)
-      go (inl (k, l, w, h, o, least)) = absurd (let z = undone_some d l.tail net.nodes o.1 (N.sound k l h).0 in omega arith)
-  run (suc fuel) d last F le = go (λ x y G q. run fuel x y G q) (best_offer d last F (length net.places))
-    where
-      go : ((x : ℕ → Option ℕ) (y : ℕ) → Front x y → undone x net.nodes ≤ fuel → Found) → BestOffer d last F (length net.places) ⊎ NoOffer d last F (length net.places) → Found
-      go on (inr A) = (d, ends d last F A)
-      go on (inl (k, l, w, h, o, least)) =
-          let fewer = undone_less d l.tail w net.nodes o.1 (N.sound k l h).0 in
-          on (put d l.tail w) w (settles d last F k l w h o (λ j i v hj q. least j i v (within d last F j i hj) hj q)) (omega arith)
+  run zero d last F le = elim (best_offer d last F) [
+    | inr A ↦ (d, ended d last F A)
+    | inl (k, w, lt, (l, h, o), low) ↦ absurd (let z = undone_some d l.tail net.nodes o.1 (N.sound k l h).0 in omega arith)
+  ]
+  run (suc fuel) d last F le = elim (best_offer d last F) [
+    | inr A ↦ (d, ended d last F A)
+    | inl (k, w, lt, (l, h, o), low) ↦
+        let fewer = undone_less d l.tail w net.nodes o.1 (N.sound k l h).0 in
+        run fuel (put d l.tail w) w (front_next d last F k l w h o low) (omega arith)
+  ]
 
   pub labels_exist : (d : ℕ → Option ℕ) × Labels ρ net t d
-  labels_exist = run (undone first net.nodes) first ρ.start begins (omega arith)
+  labels_exist = run (undone first net.nodes) first ρ.start front_first (omega arith)
 
 -- By the labels it is decided which links are tight, and the count of tight links has labels again.
 module _ (ρ : Valuation) (net : Net) (N : Limits net) (t : ℕ) (Fit : ℕ → Type 0) (L : Lawful ρ net Fit)
@@ -390,14 +273,11 @@ module _ (ρ : Valuation) (net : Net) (N : Limits net) (t : ℕ) (Fit : ℕ → 
                       ne (sym z ∙ via_made k l b a m'')
 
                   makes : (o : Option ℕ) → made k l b ≡ o → TightOrNot k l
-                  makes None z = inr (apart None z (λ e. let y : ◌≡◌ {A = ℕ} 0 1 = cc in omega arith))
+                  makes None z = inr (apart None z (none-some a))
                   makes (Some w) z = elim (ℕ_discrete w a) [
                     | yes e ↦ inl (tight_labels ρ net t Fit L d S k l b a p q r (subst (λ x. ρ.via k l b x) e (made_via k l b w z)))
-                    | no e ↦ inr (apart (Some w) z (λ y. e (some_one w a y)))
+                    | no e ↦ inr (apart (Some w) z (λ y. e cc))
                   ]
-                    where
-                      some_one : (x y : ℕ) → ◌≡◌ {A = Option ℕ} (Some x) (Some y) → x ≡ y
-                      some_one x y e = cc
 
   abbrev counted : (k : ℕ) (l : Link) → TightOrNot k l → ℕ → Option ℕ
   counted k l (inl T) n = Some (suc n)
@@ -408,7 +288,7 @@ module _ (ρ : Valuation) (net : Net) (N : Limits net) (t : ℕ) (Fit : ℕ → 
     where
       to : (k : ℕ) (l : Link) (v w : ℕ) (c : TightOrNot k l) → counted k l c v ≡ Some w → Tight ρ net t k l × (w ≡ suc v)
       to k l v w (inl T) e = (T, cc)
-      to k l v w (inr A) e = let y : ◌≡◌ {A = ℕ} 0 1 = cc in absurd (omega arith)
+      to k l v w (inr A) e = absurd (none-some w e)
 
       from : (k : ℕ) (l : Link) (v w : ℕ) (c : TightOrNot k l) → Tight ρ net t k l × (w ≡ suc v) → counted k l c v ≡ Some w
       from k l v w (inl T) (_, e) = ap Some (sym e)
@@ -419,12 +299,6 @@ module _ (ρ : Valuation) (net : Net) (N : Limits net) (t : ℕ) (Fit : ℕ → 
     abbrev Leading : ℕ → ℕ → Link → Type 0
     Leading u k l = (n : ℕ) × Holds net k l × (l.tail ≡ u) × Tight ρ net t k l × (s l.head ≡ Some n) × (s u ≡ Some (suc n))
 
-    abbrev Lowest : ℕ → ℕ → Type 0
-    Lowest u n = (k : ℕ) × (l : Link) × (k < n) × Leading u k l × ((j : ℕ) (o : Link) → j < n → Leading u j o → k ≤ j)
-
-    abbrev Nowhere : ℕ → ℕ → Type 0
-    Nowhere u n = (j : ℕ) (o : Link) → j < n → Leading u j o → ⊥
-
     abbrev LeadsOrNot : ℕ → ℕ → Type 0
     LeadsOrNot u k = ((l : Link) × Leading u k l) ⊎ ((o : Link) → Leading u k o → ⊥)
 
@@ -432,7 +306,7 @@ module _ (ρ : Valuation) (net : Net) (N : Limits net) (t : ℕ) (Fit : ℕ → 
     leads? u k = at (place net.places k) refl
       where
         at : (o : Option Link) → place net.places k ≡ o → LeadsOrNot u k
-        at None e = inr (λ o (n, h, f, T, p, q). let z : ◌≡◌ {A = ℕ} 0 1 = cc in omega arith)
+        at None e = inr (λ o D. none-some o (sym e ∙ D.1))
         at (Some l) e = tail (ℕ_discrete l.tail u)
           where
             turn : (P : Link → Type 0) → (P l → ⊥) → ((o : Link) → Leading u k o → P o) → (o : Link) → Leading u k o → ⊥
@@ -455,63 +329,56 @@ module _ (ρ : Valuation) (net : Net) (N : Limits net) (t : ℕ) (Fit : ℕ → 
                             (λ (c, x, y). let z : c ≡ n = cc in ne (sym q ∙ (y ∙ ap (λ i. Some (suc i)) z))) (λ o D. (D.0, D.4, D.5))
 
                         own : (o : Option ℕ) → s u ≡ o → LeadsOrNot u k
-                        own None q = inr (apart None q (λ z. let y : ◌≡◌ {A = ℕ} 0 1 = cc in omega arith))
+                        own None q = inr (apart None q (none-some (suc n)))
                         own (Some a) q = elim (ℕ_discrete a (suc n)) [
                           | yes z ↦ inl (l, (n, e, f, T, p, q ∙ ap Some z))
-                          | no z ↦ inr (apart (Some a) q (λ y. z (some_one a (suc n) y)))
+                          | no z ↦ inr (apart (Some a) q (λ y. z cc))
                         ]
-                          where
-                            some_one : (x y : ℕ) → ◌≡◌ {A = Option ℕ} (Some x) (Some y) → x ≡ y
-                            some_one x y e = cc
 
-    lowest : (u n : ℕ) → Lowest u n ⊎ Nowhere u n
-    lowest u zero = inr (λ j o lt D. omega arith)
-    lowest u (suc n) = join (lowest u n) (leads? u n)
-      where
-        join : Lowest u n ⊎ Nowhere u n → LeadsOrNot u n → Lowest u (suc n) ⊎ Nowhere u (suc n)
-        join (inl (k, l, lt, D, low)) h = inl (k, l, omega arith, D, λ j o lj E. elim (ℕ_discrete j n) [ yes p ↦ omega arith | no p ↦ low j o (omega arith) E ])
-        join (inr A) (inl (l, D)) = inl (n, l, omega arith, D, λ j o lt E. elim (ℕ_discrete j n) [ yes p ↦ omega arith | no p ↦ absurd (A j o (omega arith) E) ])
-        join (inr A) (inr B) = inr (λ j o lt E. elim (ℕ_discrete j n) [ yes p ↦ B o (subst (λ x. Leading u x o) p E) | no p ↦ A j o (omega arith) E ])
+    abbrev Leads : ℕ → ℕ → ℕ → Type 0
+    Leads u k i = (i ≡ k) × (l : Link) × Leading u k l
 
-    inside : (k : ℕ) (l : Link) → Holds net k l → k < length net.places
-    inside k l h = elim (cases_lt k (length net.places)) [
-      | inl p ↦ p
-      | inr p ↦ (let z = place_past net.places k p in let y : ◌≡◌ {A = ℕ} 0 1 = cc in absurd (omega arith))
-    ]
+    abbrev Lowest : ℕ → Type 0
+    Lowest u = Least (Leads u) (λ i j. i ≤ j) (length net.places) ⊎ NoOffer (Leads u) (λ i j. i ≤ j) (length net.places)
 
-    abbrev taken_place : (u n : ℕ) → Lowest u n ⊎ Nowhere u n → Option ℕ
-    taken_place u n (inl x) = Some x.0
-    taken_place u n (inr A) = None
+    lowest : (u : ℕ) → Lowest u
+    lowest u = least (Leads u) (λ i j. i ≤ j) (λ i j a b x y. elim (cases_lt a b) [ inl h ↦ inl (omega arith) | inr h ↦ inr h ])
+        (λ i j k a b c x y z p q. omega arith) (λ k a b x y. x.0 ∙ sym y.0)
+        (λ k. elim (leads? u k) [ inl (l, D) ↦ inl (k, (refl, l, D)) | inr A ↦ inr (λ i (e, l, D). A l D) ]) (length net.places)
+
+    abbrev taken_place : (u : ℕ) → Lowest u → Option ℕ
+    taken_place u (inl x) = Some x.0
+    taken_place u (inr A) = None
 
     abbrev following : ℕ → Option ℕ
-    following u = taken_place u (length net.places) (lowest u (length net.places))
+    following u = taken_place u (lowest u)
 
     nexts_found : Nexts ρ net t s following
     nexts_found = record {
       none_at_t = C.at_t;
       offered = λ k l n h T e.
           let (a, sa, le) = C.relaxed k l n (suc n) h T.elsewhere e (T, refl) in
-          (a, sa, leb-true a (suc n) le, λ j ea f. low k l n j h T e (sa ∙ ap Some ea) (lowest l.tail (length net.places)) f);
-      taken = λ u a e away. has u a e away (lowest u (length net.places)) refl;
+          (a, sa, leb-true a (suc n) le, λ j ea f. low k l n j h T e (sa ∙ ap Some ea) (lowest l.tail) f);
+      taken = λ u a e away. has u a e away (lowest u) refl;
     }
       where
         low : (k : ℕ) (l : Link) (n j : ℕ) → Holds net k l → Tight ρ net t k l → s l.head ≡ Some n → s l.tail ≡ Some (suc n) →
-            (c : Lowest l.tail (length net.places) ⊎ Nowhere l.tail (length net.places)) → taken_place l.tail (length net.places) c ≡ Some j → j ≤ k
-        low k l n j h T e q (inl (i, o, lt, D, least)) f =
+            (c : Lowest l.tail) → taken_place l.tail c ≡ Some j → j ≤ k
+        low k l n j h T e q (inl (i, a, lt, (same, o, D), least)) f =
             let z : i ≡ j = cc in
-            let le : i ≤ k = least k l (inside k l h) (n, h, refl, T, e, q) in
+            let le : a ≤ k = least k k (inside net k l h) (refl, l, (n, h, refl, T, e, q)) in
             omega arith
-        low k l n j h T e q (inr A) f = absurd (A k l (inside k l h) (n, h, refl, T, e, q))
+        low k l n j h T e q (inr A) f = absurd (A k k (inside net k l h) (refl, l, (n, h, refl, T, e, q)))
 
-        has : (u a : ℕ) → s u ≡ Some a → (u ≡ t → ⊥) → (c : Lowest u (length net.places) ⊎ Nowhere u (length net.places)) → lowest u (length net.places) ≡ c →
+        has : (u a : ℕ) → s u ≡ Some a → (u ≡ t → ⊥) → (c : Lowest u) → lowest u ≡ c →
             (k : ℕ) × (l : Link) × (n : ℕ) × (following u ≡ Some k) × Holds net k l × (l.tail ≡ u) × Tight ρ net t k l × (s l.head ≡ Some n) × (a ≡ suc n)
-        has u a e away (inl (k, l, lt, (n, h, f, T, p, q), least)) z =
-            (k, l, n, ap (taken_place u (length net.places)) z, h, f, T, p, (let y : Some a ≡ Some (suc n) = sym e ∙ q in cc))
+        has u a e away (inl (k, i, lt, (same, l, (n, h, f, T, p, q)), least)) z =
+            (k, l, n, ap (taken_place u) z, h, f, T, p, (let y : Some a ≡ Some (suc n) = sym e ∙ q in cc))
         has u a e away (inr A) z = absurd (∥∥₁_elim (C.met u a e) ⊥_prop (λ (ks, M). none ks M))
           where
             none : (ks : List ℕ) → LabelChain (count_tight ρ net t) net t s u ks → ⊥
             none [] p = away p
-            none (k ∷ ks) (l, b, a', h, f, n, db, da, (T, z), rest) = A k l (inside k l h) (b, h, f, T, db, da ∙ ap Some z)
+            none (k ∷ ks) (l, b, a', h, f, n, db, da, (T, z), rest) = A k k (inside net k l h) (refl, l, (b, h, f, T, db, da ∙ ap Some z))
 
   pub nexts_exist : (s : ℕ → Option ℕ) × (nx : ℕ → Option ℕ) × Nexts ρ net t s nx
   nexts_exist = let (s, C) = steps_exist in (s, following s C, nexts_found s C)

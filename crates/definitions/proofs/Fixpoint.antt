@@ -1,9 +1,10 @@
 -- Labels that no link betters, and that links meet, are the best values.
-use Rattle.std.proofs.Common.{◌≡◌, ℕ, true, ◌⊎◌, List, [], ◌∷◌, Some, None, Option, sym, refl, ap, ◌∙◌, subst, inl, inr, arith}
+use Rattle.std.proofs.Common.{◌≡◌, ℕ, true, ◌⊎◌, List, [], ◌∷◌, Some, None, Option, sym, refl, ap, ◌∙◌, subst, inl, inr}
 use mathlib.Core.Logic.{∥∥₁_elim, ∥∥₁_map}
 use mathlib.Core.HLevel.{⊥_prop}
 use native.Mathlib.Decide.{ℕ_discrete}
 use mathlib.Core.Bool.{Bool-set}
+use Rattle.std.proofs.lemmas.Option.{none-some}
 use Rattle.definitions.specs.declared.Link.{Link}
 use Rattle.definitions.specs.Networks.{Net, Holds}
 use Rattle.definitions.specs.Routes.{Valuation, RouteValue, Best, NoRoute}
@@ -93,7 +94,7 @@ module _ (ρ : Valuation) (net : Net) (t : ℕ) (Fit : ℕ → Type 0) (L : Lawf
     }
 
     pub label_none : (u : ℕ) → d u ≡ None → NoRoute ρ net t u
-    label_none u e ks w r = let (b, db, le) = label_bound u ks w r in let z : ◌≡◌ {A = ℕ} 0 1 = cc in omega arith
+    label_none u e ks w r = let (b, db, le) = label_bound u ks w r in none-some b (sym e ∙ db)
 
     pub best_label : (u a : ℕ) → Best ρ net t u a → d u ≡ Some a
     best_label u a B = go (d u) refl

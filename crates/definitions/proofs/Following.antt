@@ -3,14 +3,15 @@ use Rattle.std.proofs.Common.{◌≡◌, ℕ, zero, suc, pred, List, [], ◌∷�
 use mathlib.Core.Logic.{∥∥₁_elim}
 use mathlib.Core.HLevel.{⊥_prop}
 use native.Mathlib.Decide.{ℕ_discrete}
+use Rattle.std.proofs.lemmas.Option.{none-some}
 use Rattle.std.proofs.lemmas.Bool.{le-leb, cases_order}
 use Rattle.definitions.specs.declared.Link.{Link}
-use Rattle.definitions.specs.Networks.{Net, Holds}
+use Rattle.definitions.specs.Networks.{Net}
 use Rattle.definitions.specs.Routes.{Valuation, Route, RouteValue, Best, Tight, count_tight, Steps, Next, Held}
 use Rattle.definitions.specs.Searches.{LabelChain, Labels, Nexts}
 use Rattle.definitions.proofs.Fixpoint.{Lawful, past_start, best_one, label_best, best_label, label_bound}
 use Rattle.definitions.proofs.Lawfuls.{count_lawful, Any}
-use Rattle.definitions.proofs.Layers.{same_link}
+use Rattle.definitions.proofs.Layers.{same_at}
 
 -- A route with a value is a route.
 pub value_route : (ρ : Valuation) (net : Net) (t u : ℕ) (ks : List ℕ) (w : ℕ) → RouteValue ρ net t u ks w → Route net t u ks
@@ -42,9 +43,8 @@ module _ (ρ : Valuation) (net : Net) (t : ℕ) where
   held_one u (k ∷ ks) [] (l, K, p) q = absurd (next_away u k l K q)
   held_one u (k ∷ ks) (j ∷ js) (l, K, p) (i, J, q) =
       let e = next_one u k j l i K J in
-      let h : Holds net k i = subst (λ x. Holds net x i) (sym e) J.holds in
-      let f = same_link net k l i K.holds h in
-      let q' : Held ρ net t l.head js = subst (λ x. Held ρ net t x.head js) (sym f) q in
+      let f = same_at net j k i l (sym e) J.holds K.holds in
+      let q' : Held ρ net t l.head js = subst (λ x. Held ρ net t x.head js) f q in
       let r = held_one l.head ks js p q' in
       cc
 
@@ -59,9 +59,12 @@ module _ (ρ : Valuation) (net : Net) (t : ℕ) where
     pub start_best : Best ρ net t t ρ.start
     start_best = record { reached = ∣ ([], (refl, refl)) ∣₁; unbeaten = λ ks v r. past_start ρ net t Fit L t ks v r }
 
+    pub best_at_end : (u a : ℕ) → u ≡ t → Best ρ net t u a → a ≡ ρ.start
+    best_at_end u a p B = best_one ρ net t Fit L t a ρ.start (subst (λ x. Best ρ net t x a) p B) start_best
+
     -- the held route of a node has the node's best value
     pub held_value : (u : ℕ) (ks : List ℕ) (a : ℕ) → Best ρ net t u a → Held ρ net t u ks → RouteValue ρ net t u ks a
-    held_value u [] a B p = (p, best_one ρ net t Fit L t a ρ.start (subst (λ x. Best ρ net t x a) p B) start_best)
+    held_value u [] a B p = (p, best_at_end u a p B)
     held_value u (k ∷ ks) a B (l, K, p) =
         let T = K.tight in
         let e : T.own ≡ a = best_one ρ net t Fit L u T.own a (subst (λ x. Best ρ net t x T.own) K.starts T.best_own) B in
@@ -156,7 +159,7 @@ module _ (ρ : Valuation) (net : Net) (t : ℕ) where
             go None q =
                 absurd (∥∥₁_elim (S.met u a e) ⊥_prop (λ c.
                 let (n, sn, le) = label_bound (count_tight ρ net t) net t Any (count_lawful ρ net t) s count_labels u c.0 (length c.0) (chain_count u c.0 c.1) in
-                let z : ◌≡◌ {A = ℕ} 0 1 = cc in omega arith))
+                none-some n (sym q ∙ sn)))
 
         -- and a held route
         pub held_from : (n u : ℕ) → s u ≡ Some n → (ks : List ℕ) × Held ρ net t u ks
@@ -169,3 +172,7 @@ module _ (ρ : Valuation) (net : Net) (t : ℕ) where
                 let (k, l, _, K, g) = next_label u (suc n) e q in
                 let (ks, r) = go n l.head g (ℕ_discrete l.head t) in
                 (k ∷ ks, (l, K, r))
+
+        -- so every node with a best value has a held route
+        pub best_held : (u a : ℕ) → Best ρ net t u a → (ks : List ℕ) × Held ρ net t u ks
+        best_held u a B = let (n, e) = value_steps u a (best_label ρ net t Fit L d S u a B) in held_from n u e

@@ -3,8 +3,8 @@ use Rattle.std.proofs.Common.{◌≡◌, ℕ, true, List, [], ◌∷◌, Some, N
 use mathlib.Core.Bool.{Bool-set}
 use mathlib.Core.HLevel.{⊥_prop}
 use mathlib.Core.Logic.{∥∥₁_elim, ∥∥₁_map}
-use native.Mathlib.Bridge.{le_prop}
 use Rattle.std.proofs.lemmas.Bool.{cond-true}
+use Rattle.std.proofs.lemmas.Option.{none-some}
 use Rattle.definitions.specs.declared.Link.{Link}
 use Rattle.definitions.specs.Networks.{Net, Holds, Limits, at_risk}
 use Rattle.definitions.specs.Measures.{Scale, Laws, worse}
@@ -13,35 +13,25 @@ use Rattle.definitions.specs.Plans.{plain, worst, Recovery}
 use Rattle.definitions.specs.Searches.{given, LabelChain, Labels, Nexts}
 use Rattle.definitions.proofs.Fixpoint.{Lawful, past_start, label_fits, chain_value}
 use Rattle.definitions.proofs.Following.{tight_labels, labels_tight}
-use Rattle.definitions.proofs.Lawfuls.{Value, worse_fits, worse_right, worse_keeps, plain_lawful, worst_lawful, recovery_one, recovery_fits}
+use Rattle.definitions.proofs.Lawfuls.{Value, worse_lawful, plain_lawful, worst_lawful, recovery_one, recovery_fits}
 
 module _ (m : Scale) (M : Laws m) (net : Net) (N : Limits net) (t : ℕ) (r : ℕ → Option ℕ) where
   pub given_lawful : ((k : ℕ) (l : Link) (x : ℕ) → Holds net k l → r k ≡ Some x → Value x) → Lawful (given m r) net Value
-  given_lawful F = record {
-    fit_prop = λ v. le_prop;
-    start_fits = M.start_fits;
-    via_fits = λ k l v w h f e. rw e.2 (worse_fits m M e.0 (m.extend v l.figure) (F k l e.0 h e.1) (M.extend_fits v l.figure f (N.sound k l h).3));
-    one_is = M.one_is;
-    chains = M.chains;
-    equal = M.equal;
-    keeps = keeps_given;
-    never_better = λ k l v w h fv e.
-        let f = (N.sound k l h).3 in
-        let x = m.extend v l.figure in
-        let fx = M.extend_fits v l.figure fv f in
-        let fr = F k l e.0 h e.1 in
-        rw e.2 (M.chains v x (worse m e.0 x) fv fx (worse_fits m M e.0 x fr fx) (M.never_better v l.figure fv f) (worse_right m M e.0 x fr fx));
-    via_any = λ k l a b v h fa fb p. (worse m p.0 (m.extend b l.figure), (p.0, p.1, refl));
-  }
-    where
-      keeps_given : (k : ℕ) (l : Link) (a b v w : ℕ) → Holds net k l → Value a → Value b → m.no_worse a b ≡ true →
-          (given m r).via k l a v → (given m r).via k l b w → m.no_worse v w ≡ true
-      keeps_given k l a b v w h fa fb le (x, ex, p) (y, ey, q) =
-          let f = (N.sound k l h).3 in
-          let xy : y ≡ x = cc in
-          let e : w ≡ worse m x (m.extend b l.figure) = rw (← xy) q in
-          rw (p, e) (worse_keeps m M x (m.extend a l.figure) (m.extend b l.figure) (F k l x h ex)
-          (M.extend_fits a l.figure fa f) (M.extend_fits b l.figure fb f) (M.keeps a b l.figure fa fb f le))
+  given_lawful F = worse_lawful m M net N (λ k l x. r k ≡ Some x) F (λ k l x y p q. cc)
+
+-- What the link makes of the value b, by the recovery values r.
+abbrev pub made : Scale → (ℕ → Option ℕ) → ℕ → Link → ℕ → Option ℕ
+made m r k l b = elim (r k) [ None ↦ None | Some x ↦ Some (worse m x (m.extend b l.figure)) ]
+
+pub made_via : (m : Scale) (r : ℕ → Option ℕ) (k : ℕ) (l : Link) (b w : ℕ) → made m r k l b ≡ Some w → (given m r).via k l b w
+made_via m r k l b w e = go (r k) refl
+  where
+    go : (o : Option ℕ) → r k ≡ o → (given m r).via k l b w
+    go None q = absurd (none-some w (rw (q, made) at e))
+    go (Some x) q = (x, q, (let e' : ◌≡◌ {A = Option ℕ} (Some (worse m x (m.extend b l.figure))) (Some w) = rw (q, made) at e in cc))
+
+pub via_made : (m : Scale) (r : ℕ → Option ℕ) (k : ℕ) (l : Link) (b w : ℕ) → (given m r).via k l b w → made m r k l b ≡ Some w
+via_made m r k l b w (x, q, e) = rw (q, made) (ap Some (sym e))
 
 -- Labels pass from one valuation to another of the same start and order, by which labelled heads make the same.
 pub labels_over : (ρ σ : Valuation) (net : Net) (t : ℕ) (d : ℕ → Option ℕ) → ρ.start ≡ σ.start → ρ.no_worse ≡ σ.no_worse →
@@ -79,9 +69,6 @@ module _ (ρ σ : Valuation) (net : Net) (t : ℕ) (L : Lawful ρ net Value) (K 
     taken = λ u a e n. let (k, l, c, q, h, f, T, g, z) = X.taken u a e n in (k, l, c, q, h, f, tight_to k l h T, g, z);
   }
 
-some_one : (x y : ℕ) → ◌≡◌ {A = Option ℕ} (Some x) (Some y) → x ≡ y
-some_one x y e = cc
-
 module _ (m : Scale) (M : Laws m) (net : Net) (N : Limits net) (t : ℕ) where
   -- The recovery values of a network: at each link r(k), and none where there is no route.
   pub record Recoveries (r : ℕ → Option ℕ) : Type 0 where
@@ -114,7 +101,7 @@ module _ (m : Scale) (M : Laws m) (net : Net) (N : Limits net) (t : ℕ) where
   -- With the start for every link, labels are labels by plain values.
   module _ (r : ℕ → Option ℕ) (R : (k : ℕ) (l : Link) → Holds net k l → r k ≡ Some m.start) where
     pub starts_lawful : Lawful (given m r) net Value
-    starts_lawful = given_lawful m M net N t r (λ k l x h e. let q : x ≡ m.start = some_one x m.start (sym e ∙ R k l h) in rw q M.start_fits)
+    starts_lawful = given_lawful m M net N t r (λ k l x h e. let q : x ≡ m.start = (let s = R k l h in cc) in rw q M.start_fits)
 
     module _ (d : ℕ → Option ℕ) (S : Labels (given m r) net t d) where
       -- a label is no better than the start, so the start changes nothing
@@ -128,7 +115,8 @@ module _ (m : Scale) (M : Laws m) (net : Net) (N : Limits net) (t : ℕ) where
 
       idle_via : (k : ℕ) (l : Link) (b w : ℕ) → Holds net k l → d l.head ≡ Some b → (given m r).via k l b w → (plain m).via k l b w
       idle_via k l b w h e (x, ex, q) =
-          let z : x ≡ m.start = some_one x m.start (sym ex ∙ R k l h) in
+          let s = R k l h in
+          let z : x ≡ m.start = cc in
           q ∙ (ap (λ y. worse m y (m.extend b l.figure)) z ∙ start_idle k l b h e)
 
       via_idle : (k : ℕ) (l : Link) (b w : ℕ) → Holds net k l → d l.head ≡ Some b → (plain m).via k l b w → (given m r).via k l b w

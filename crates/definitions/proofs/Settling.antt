@@ -1,18 +1,19 @@
 -- The steps of the search for the best values, over any heap.
-use Rattle.std.proofs.Common.{◌≡◌, ℕ, true, ◌⊎◌, List, [], ◌∷◌, Some, None, Option, sym, refl, ap, ◌∙◌, subst, inl, inr, arith}
+use Rattle.std.proofs.Common.{◌≡◌, ℕ, true, ◌⊎◌, List, [], ◌∷◌, Some, None, Option, sym, refl, ap, ◌∙◌, subst, inl, inr}
 use mathlib.Core.Bool.{Bool-set}
 use mathlib.Core.Logic.{∥∥₁_elim, ∥∥₁_map, ∥∥₁_prop}
 use native.Mathlib.Decide.{ℕ_discrete}
+use Rattle.std.proofs.lemmas.Option.{none-some}
 use Rattle.definitions.specs.declared.Link.{Link}
 use Rattle.definitions.specs.Networks.{Net, Holds}
 use Rattle.definitions.specs.Routes.{Valuation}
 use Rattle.definitions.specs.Searches.{LabelChain, Labels, Running}
 use Rattle.definitions.proofs.Fixpoint.{Lawful, itself, met_fits}
-use Rattle.definitions.proofs.Layers.{same_link}
+use Rattle.definitions.proofs.Layers.{so_at}
 
 -- no node has both a label and none
 pub not_both : (o : Option ℕ) (a : ℕ) → o ≡ Some a → o ≡ None → ⊥
-not_both o a p q = let z : ◌≡◌ {A = ℕ} 0 1 = cc in omega arith
+not_both o a p q = none-some a (sym q ∙ p)
 
 -- a chain stays when a node without a label gets one
 pub chain_grow : (ρ : Valuation) (net : Net) (t : ℕ) (d d' : ℕ → Option ℕ) → ((u a : ℕ) → d u ≡ Some a → d' u ≡ Some a) →
@@ -80,25 +81,17 @@ module _ (ρ : Valuation) (net : Net) (t : ℕ) (Fit : ℕ → Type 0) (L : Lawf
       ]);
       kept = λ j i b w a hj du n q mk e. elim (ℕ_discrete j k) [
         | no z ↦ R.kept j i b w a hj (less j i du z) n q mk e
-        | yes z ↦
-            let s : i ≡ l = same_link net j i l hj (subst (λ x. Holds net x l) (sym z) h) in
-            let hb : done i.head ≡ Some last = subst (λ x. done x.head ≡ Some last) (sym s) hd in
-            let bl : b ≡ last = cc in
+        | yes z ↦ so_at net (λ j i. done i.head ≡ Some b → ρ.via j i b w → done i.tail ≡ Some a → ρ.no_worse a w ≡ true) j k i l z hj h (λ q mk e.
+            let same : b ≡ last = cc in
             let fl = done_fits l.head last hd in
-            let mk' : ρ.via j i last w = subst (λ x. ρ.via j i x w) bl mk in
-            L.chains a last w (done_fits i.tail a e) fl (L.via_fits j i last w hj fl mk') (R.behind i.tail a e) (L.never_better j i last w hj fl mk')
+            let mk' : ρ.via k l last w = subst (λ x. ρ.via k l x w) same mk in
+            L.chains a last w (done_fits l.tail a e) fl (L.via_fits k l last w h fl mk') (R.behind l.tail a e) (L.never_better k l last w h fl mk')) q mk e
       ];
       waits = λ j i b w hj du n q mk e. elim (ℕ_discrete j k) [
         | no z ↦ grow w i.tail (R.waits j i b w hj (less j i du z) n q mk e)
-        | yes z ↦
-            let s : i ≡ l = same_link net j i l hj (subst (λ x. Holds net x l) (sym z) h) in
-            let hb : done i.head ≡ Some last = subst (λ x. done x.head ≡ Some last) (sym s) hd in
-            let bl : b ≡ last = cc in
-            let mk1 : ρ.via j i last w = subst (λ x. ρ.via j i x w) bl mk in
-            let mk2 : ρ.via k i last w = subst (λ x. ρ.via x i last w) z mk1 in
-            let mk3 : ρ.via k l last w = subst (λ x. ρ.via k x last w) s mk2 in
-            let e' : done l.tail ≡ None = subst (λ x. done x.tail ≡ None) s e in
-            subst (λ x. In' w x.tail) (sym s) (put w mk3 e')
+        | yes z ↦ so_at net (λ j i. done i.head ≡ Some b → ρ.via j i b w → done i.tail ≡ None → In' w i.tail) j k i l z hj h (λ q mk e.
+            let same : b ≡ last = cc in
+            put w (subst (λ x. ρ.via k l x w) same mk) e) q mk e
       ];
     }
 
@@ -126,7 +119,6 @@ module _ (ρ : Valuation) (net : Net) (t : ℕ) (Fit : ℕ → Type 0) (L : Lawf
         newest = ∣ (u, now) ∣₁;
         behind = λ x a e. elim (ℕ_discrete x u) [
           | yes p ↦
-              let e' : done' u ≡ Some a = subst (λ y. done' y ≡ Some a) p e in
               let z : w ≡ a = cc in
               subst (λ y. ρ.no_worse y w ≡ true) z (itself ρ net t Fit L w fw)
           | no n ↦ old_behind x a (sym (rest x n) ∙ e)
@@ -138,7 +130,6 @@ module _ (ρ : Valuation) (net : Net) (t : ℕ) (Fit : ℕ → Type 0) (L : Lawf
             elim (ℕ_discrete l.tail u) [
               | no z ↦ R.kept k l b v a h (due k l) n q' mk (sym (rest l.tail z) ∙ e)
               | yes z ↦
-                  let e' : done' u ≡ Some a = subst (λ y. done' y ≡ Some a) z e in
                   let wa : w ≡ a = cc in
                   let none : done l.tail ≡ None = ap done z ∙ fresh in
                   subst (λ y. ρ.no_worse y v ≡ true) wa (least v l.tail (R.waits k l b v h (due k l) n q' mk none))

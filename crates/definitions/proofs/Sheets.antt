@@ -1,14 +1,16 @@
 -- A sheet of labels for a network, found by computing, and a test that says that it is right.
 use Rattle.std.proofs.Common.{◌≡◌, ℕ, zero, suc, Bool, true, false, not, ◌&&◌, ◌||◌, eqb, leb, List, [], ◌∷◌, Some, None, Option, sym, refl, ap, ◌∙◌, subst, inl, inr, arith}
 use native.Mathlib.Decide.{ℕ_discrete}
-use Rattle.std.proofs.lemmas.Bool.{and_parts, or_cases, eqb-true, eq-eqb, leb-true}
+use Rattle.std.proofs.lemmas.Option.{none-some}
+use Rattle.std.proofs.lemmas.Bool.{and_parts, or_cases, eqb-true, eq-eqb, leb-true, both_ways}
 use Rattle.definitions.specs.declared.Link.{Link}
 use Rattle.definitions.specs.Networks.{Net, Holds, place}
-use Rattle.definitions.specs.Measures.{Scale, worse}
+use Rattle.definitions.specs.Measures.{Scale}
 use Rattle.definitions.specs.Searches.{given, LabelChain, Labels, Nexts}
 use Rattle.definitions.proofs.Fixpoint.{Lawful}
 use Rattle.definitions.proofs.Following.{tight_labels, labels_tight}
 use Rattle.definitions.proofs.Lawfuls.{Value}
+use Rattle.definitions.proofs.Givens.{made, made_via, via_made}
 
 -- tests on what may be there
 abbrev pub none_or : {X : Type 0} → Option X → (X → Bool) → Bool
@@ -23,7 +25,7 @@ pub none_or_at : {X : Type 0} (o : Option X) (f : X → Bool) (x : X) → none_o
 none_or_at o f x h e = subst (λ z. none_or z f ≡ true) e h
 
 pub some_and_at : {X : Type 0} (o : Option X) (f : X → Bool) → some_and o f ≡ true → (x : X) × (o ≡ Some x) × (f x ≡ true)
-some_and_at None f h = let z : ◌≡◌ {A = ℕ} 0 1 = cc in absurd (omega arith)
+some_and_at None f h = absurd (both_ways false refl h)
 some_and_at (Some x) f h = (x, refl, h)
 
 -- each entry of a list passes, with its number
@@ -32,7 +34,7 @@ every f [] = true
 every f (p ∷ ps) = none_or p (f 0) && every (λ k. f (suc k)) ps
 
 pub every_at : {X : Type 0} (f : ℕ → X → Bool) (ps : List (Option X)) (k : ℕ) (x : X) → every f ps ≡ true → place ps k ≡ Some x → f k x ≡ true
-every_at f [] k x h e = let z : ◌≡◌ {A = ℕ} 0 1 = cc in absurd (omega arith)
+every_at f [] k x h e = absurd (none-some x e)
 every_at f (p ∷ ps) zero x h e = none_or_at p (f 0) x (and_parts _ _ h).0 e
 every_at f (p ∷ ps) (suc k) x h e = every_at (λ j. f (suc j)) ps k x (and_parts _ _ h).1 e
 
@@ -42,23 +44,9 @@ pub record Sheet : Type 0 where
   pub steps : List (Option ℕ)
   pub nexts : List (Option ℕ)
 
--- What the link makes of the value b, by the recovery values r.
-abbrev pub made : Scale → (ℕ → Option ℕ) → ℕ → Link → ℕ → Option ℕ
-made m r k l b = elim (r k) [ None ↦ None | Some x ↦ Some (worse m x (m.extend b l.figure)) ]
-
-pub made_via : (m : Scale) (r : ℕ → Option ℕ) (k : ℕ) (l : Link) (b w : ℕ) → made m r k l b ≡ Some w → (given m r).via k l b w
-made_via m r k l b w e = go (r k) refl
-  where
-    go : (o : Option ℕ) → r k ≡ o → (given m r).via k l b w
-    go None q = let e' : ◌≡◌ {A = Option ℕ} None (Some w) = rw (q, made) at e in let z : ◌≡◌ {A = ℕ} 0 1 = cc in absurd (omega arith)
-    go (Some x) q = (x, q, (let e' : ◌≡◌ {A = Option ℕ} (Some (worse m x (m.extend b l.figure))) (Some w) = rw (q, made) at e in cc))
-
-pub via_made : (m : Scale) (r : ℕ → Option ℕ) (k : ℕ) (l : Link) (b w : ℕ) → (given m r).via k l b w → made m r k l b ≡ Some w
-via_made m r k l b w (x, q, e) = rw (q, made) (ap Some (sym e))
-
 either_not : (a x : Bool) → (not a || x) ≡ true → a ≡ true → x ≡ true
 either_not true x h e = h
-either_not false x h e = let z : ◌≡◌ {A = ℕ} 0 1 = cc in absurd (omega arith)
+either_not false x h e = absurd (both_ways false refl e)
 
 module _ (m : Scale) (net : Net) (t : ℕ) (r : ℕ → Option ℕ) (sh : Sheet) where
   abbrev val : ℕ → Option ℕ

@@ -5,7 +5,7 @@ use Rattle.definitions.specs.declared.Link.{Link}
 use Rattle.definitions.specs.Networks.{Net, Holds}
 use Rattle.definitions.specs.Routes.{Valuation, Tight}
 use Rattle.definitions.specs.Searches.{Nexts, Stepping}
-use Rattle.definitions.proofs.Layers.{same_link}
+use Rattle.definitions.proofs.Layers.{same_link, same_at, so_at}
 use Rattle.definitions.proofs.Settling.{not_both}
 
 module _ (ρ : Valuation) (net : Net) (t : ℕ) where
@@ -25,7 +25,7 @@ module _ (ρ : Valuation) (net : Net) (t : ℕ) where
   begins s nx e o = record {
     none_at_t = e;
     behind = λ u a q. elim (ℕ_discrete u t) [
-      | yes p ↦ (let y : s u ≡ Some 0 = ap s p ∙ e in let z : a ≡ 0 = cc in omega arith)
+      | yes p ↦ (let z : a ≡ 0 = cc in omega arith)
       | no n ↦ absurd (not_both (s u) a q (o u n))
     ];
     ahead = λ n k q. absurd q;
@@ -53,23 +53,16 @@ module _ (ρ : Valuation) (net : Net) (t : ℕ) where
       kept = λ j i c a hj du T q e. elim (ℕ_discrete j k) [
         | no z ↦ R.kept j i c a hj (less j i du z) T q e
         | yes z ↦
-            let y : i ≡ l = same_link net j i l hj (subst (λ x. Holds net x l) (sym z) h) in
-            let hb : s i.head ≡ Some last = subst (λ x. s x.head ≡ Some last) (sym y) hd in
+            let y = same_at net j k i l z hj h in
             let cl : c ≡ last = cc in
             let al : a ≤ last = R.behind i.tail a e in
             (omega arith, λ x ax nxx. absurd (omega arith))
       ];
       waits = λ j i c hj du T q e. elim (ℕ_discrete j k) [
         | no z ↦ grow (suc c) j (R.waits j i c hj (less j i du z) T q e)
-        | yes z ↦
-            let y : i ≡ l = same_link net j i l hj (subst (λ x. Holds net x l) (sym z) h) in
-            let hb : s i.head ≡ Some last = subst (λ x. s x.head ≡ Some last) (sym y) hd in
-            let cl : last ≡ c = cc in
-            let T1 : Tight ρ net t k i = subst (λ x. Tight ρ net t x i) z T in
-            let T2 : Tight ρ net t k l = subst (λ x. Tight ρ net t k x) y T1 in
-            let e' : s l.tail ≡ None = subst (λ x. s x.tail ≡ None) y e in
-            let p : In' (suc last) j = subst (λ x. In' (suc last) x) (sym z) (put T2 e') in
-            subst (λ x. In' (suc x) j) cl p
+        | yes z ↦ so_at net (λ j i. Tight ρ net t j i → s i.head ≡ Some c → s i.tail ≡ None → In' (suc c) j) j k i l z hj h (λ T q e.
+            let same : last ≡ c = cc in
+            subst (λ x. In' (suc x) k) same (put T e)) T q e
       ];
     }
 
@@ -85,7 +78,7 @@ module _ (ρ : Valuation) (net : Net) (t : ℕ) where
         taken = R.taken;
         kept = R.kept;
         waits = λ j i c hj du T q z.
-            left (suc c) j (λ p. not_both (s i.tail) a (ap (λ x. s x.tail) (same_link net j i l hj (subst (λ x. Holds net x l) (sym p) h)) ∙ e) z)
+            left (suc c) j (λ p. not_both (s i.tail) a (ap (λ x. s x.tail) (same_at net j k i l p hj h) ∙ e) z)
             (R.waits j i c hj du T q z);
       }
 
@@ -95,7 +88,7 @@ module _ (ρ : Valuation) (net : Net) (t : ℕ) where
       settles s' nx' fresh now nxt rest restn due = record {
         none_at_t = keeps t 0 R.none_at_t;
         behind = λ x a e. elim (ℕ_discrete x l.tail) [
-          | yes p ↦ (let e' : s' l.tail ≡ Some a = subst (λ y. s' y ≡ Some a) p e in let z : a ≡ n = cc in omega arith)
+          | yes p ↦ (let z : a ≡ n = cc in omega arith)
           | no q ↦ (let z : a ≤ last = R.behind x a (sym (rest x q) ∙ e) in let y : last ≤ n = R.ahead n k here in omega arith)
         ];
         ahead = λ m j i. elim (least m j (fewer m j i)) [ inl p ↦ omega arith | inr p ↦ omega arith ];
@@ -110,13 +103,11 @@ module _ (ρ : Valuation) (net : Net) (t : ℕ) where
                   let (le, lo) = R.kept j i c a hj (due j i) T q' (sym (rest i.tail z) ∙ e) in
                   (le, λ x ax nxx. lo x ax (sym (restn i.tail z) ∙ nxx))
               | yes z ↦
-                  let e' : s' l.tail ≡ Some a = subst (λ y. s' y ≡ Some a) z e in
                   let an : a ≡ n = cc in
                   let none : s i.tail ≡ None = ap s z ∙ fresh in
                   let w = least (suc c) j (R.waits j i c hj (due j i) T q' none) in (
                     elim w [ inl p ↦ omega arith | inr p ↦ omega arith ],
                     λ x ax nxx.
-                        let y : nx' l.tail ≡ Some x = subst (λ y. nx' y ≡ Some x) z nxx in
                         let xk : x ≡ k = cc in
                         elim w [ inl p ↦ absurd (omega arith) | inr p ↦ omega arith ],
                   )
@@ -124,7 +115,7 @@ module _ (ρ : Valuation) (net : Net) (t : ℕ) where
         waits = λ j i c hj du T q e.
             let q' : s i.head ≡ Some c = sym (rest i.head du) ∙ q in
             let apart : i.tail ≡ l.tail → ⊥ = λ z. not_both (s' i.tail) n (ap s' z ∙ now) e in
-            left (suc c) j (λ p. apart (ap (λ x. x.tail) (same_link net j i l hj (subst (λ x. Holds net x l) (sym p) h))))
+            left (suc c) j (λ p. apart (ap (λ x. x.tail) (same_at net j k i l p hj h)))
             (R.waits j i c hj (due j i) T q' (sym (rest i.tail apart) ∙ e));
       }
         where
@@ -140,7 +131,6 @@ module _ (ρ : Valuation) (net : Net) (t : ℕ) where
             | yes p ↦
                 (let (o, c, ho, To, so, z) = R.origin n k here in
                 let y : o ≡ l = same_link net k o l ho h in
-                let e' : s' l.tail ≡ Some a = subst (λ y. s' y ≡ Some a) p e in
                 let an : a ≡ n = cc in
                 (k, l, c, ap nx' p ∙ nxt, h, sym p, subst (λ x. Tight ρ net t k x) y To, keeps l.head c (subst (λ x. s x.head ≡ Some c) y so), an ∙ z))
           ]

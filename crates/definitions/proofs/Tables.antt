@@ -1,24 +1,26 @@
 -- Claims on a network under a measure, decided by computing: the labels are found, tested, and read.
-use Rattle.std.proofs.Common.{◌≡◌, ℕ, zero, suc, ◌^◌, Bool, true, false, cond, not, ◌&&◌, eqb, ltb, leb, ◌↔◌, List, [], ◌∷◌, length, get_or, set, replicate, Some, None, Option, sym, refl, ap, ◌∙◌, subst, arith}
+use Rattle.std.proofs.Common.{◌≡◌, ℕ, zero, suc, ◌^◌, Bool, true, false, cond, not, ◌&&◌, eqb, ltb, leb, ◌↔◌, List, [], ◌∷◌, length, get_or, set, replicate, Some, None, Option, sym, refl, ap, ◌∙◌, subst}
 use mathlib.Core.HLevel.{⊥_prop}
 use mathlib.Core.Logic.{∥∥₁_elim}
 use Rattle.std.proofs.lemmas.Bool.{and_parts, and_from, eqb-true, eqb-false, eq-eqb, ne_eqb, leb-true, ltb-true, not-true, both_ways}
+use Rattle.std.specs.Fn.{iterate}
+use Rattle.std.specs.Option.{is_none}
 use Rattle.definitions.specs.declared.Link.{Link}
 use Rattle.definitions.specs.declared.Failure.{Failure}
 use Rattle.definitions.specs.Networks.{Net, Holds, Limits, place, risks, at_risk, failed}
 use Rattle.definitions.specs.Measures.{Scale, Laws}
 use Rattle.definitions.specs.Routes.{Valuation, RouteValue, NoRoute, Tight, Next, Held}
-use Rattle.definitions.specs.Plans.{plain, worst, Guarantee, Backup, Traced, arrived, onward, turned, Counted, none, one, skip, Planned}
+use Rattle.definitions.specs.Plans.{plain, worst, Recovery, Guarantee, Backup, Traced, arrived, onward, turned, Counted, none, one, skip, Planned}
 use Rattle.definitions.specs.Searches.{given, Labels, Nexts}
 use Rattle.definitions.specs.Example.{Claim, recovery, no_recovery, worst_value, guarantee, no_guarantee, planned, tight_links, steps, next_link, held, backup, trace, among, TracedAll, True, AllTrue, Case, AllCases, Kind, by_delay, by_width, scale, table}
 use Rattle.definitions.proofs.Fixpoint.{Lawful, label_best, label_none}
 use Rattle.definitions.proofs.Following.{next_label, steps_label, tight_labels, labels_tight}
 use Rattle.definitions.proofs.Layers.{without_limits, same_link}
 use Rattle.definitions.proofs.Lawfuls.{Value, plain_lawful, worst_lawful}
-use Rattle.definitions.proofs.Givens.{Recoveries, recoveries_lawful, worst_labels, worst_nexts, starts_lawful, plain_labels, plain_nexts, given_via, worst_via}
+use Rattle.definitions.proofs.Givens.{made, made_via, via_made, Recoveries, recoveries_lawful, worst_labels, worst_nexts, starts_lawful, plain_labels, plain_nexts, given_via, worst_via}
 use Rattle.definitions.proofs.Scales.{delay_laws, width_laws}
 use Rattle.definitions.proofs.Mains.{recovery_exists}
-use Rattle.definitions.proofs.Sheets.{some_and, some_and_at, every, every_at, Sheet, made, made_via, via_made, right?, right, sheet_labels, sheet_nexts}
+use Rattle.definitions.proofs.Sheets.{some_and, some_and_at, every, every_at, Sheet, right?, Right, right, sheet_labels, sheet_nexts}
 
 -- Finding the labels. Nothing is proved of this: what it finds is tested.
 
@@ -26,10 +28,6 @@ abbrev sweep : {X : Type 0} → (ℕ → Link → X → X) → ℕ → List (Opt
 sweep f k [] x = x
 sweep f k (None ∷ ps) x = sweep f (suc k) ps x
 sweep f k (Some l ∷ ps) x = sweep f (suc k) ps (f k l x)
-
-abbrev rounds : {X : Type 0} → ℕ → (X → X) → X → X
-rounds zero f x = x
-rounds (suc n) f x = rounds n f (f x)
 
 abbrev better : Scale → Option ℕ → ℕ → Option ℕ
 better m None w = Some w
@@ -63,8 +61,8 @@ pick m t r vs ss k l ns =
 abbrev solve : Scale → Net → ℕ → (ℕ → Option ℕ) → Sheet
 solve m net t r =
     let blank : List (Option ℕ) = replicate net.nodes None in
-    let vs = rounds net.nodes (sweep (offer m t r) 0 net.places) (set blank t (Some m.start)) in
-    let ss = rounds net.nodes (sweep (step m t r vs) 0 net.places) (set blank t (Some 0)) in
+    let vs = iterate (sweep (offer m t r) 0 net.places) net.nodes (set blank t (Some m.start)) in
+    let ss = iterate (sweep (step m t r vs) 0 net.places) net.nodes (set blank t (Some 0)) in
     record { values = vs; steps = ss; nexts = sweep (pick m t r vs ss) 0 net.places blank }
 
 abbrev starts : Scale → ℕ → Option ℕ
@@ -120,74 +118,6 @@ layers_right? m net t bk = every (λ k l. right? m (at_risk k net) t (starts m) 
 abbrev pub all_right? : Scale → Net → ℕ → Book → Bool
 all_right? m net t bk = limits? net && (layers_right? m net t bk && right? m net t (recovered net bk.layers) bk.main)
 
-module _ (m : Scale) (M : Laws m) (net : Net) (t : ℕ) (bk : Book) (ok : all_right? m net t bk ≡ true) where
-  lim : Limits net
-  lim = limits_right net (and_parts (limits? net) _ ok).0
-
-  rest_ok : (layers_right? m net t bk && right? m net t (recovered net bk.layers) bk.main) ≡ true
-  rest_ok = (and_parts (limits? net) _ ok).1
-
-  abbrev rec : ℕ → Option ℕ
-  rec = recovered net bk.layers
-
-  abbrev val : ℕ → Option ℕ
-  val u = place bk.main.values u
-
-  abbrev stp : ℕ → Option ℕ
-  stp u = place bk.main.steps u
-
-  abbrev nxt : ℕ → Option ℕ
-  nxt u = place bk.main.nexts u
-
-  module _ (k : ℕ) (l : Link) (h : Holds net k l) where
-    abbrev lnet : Net
-    lnet = at_risk k net
-
-    llim : Limits (at_risk k net)
-    llim = without_limits (risks net k) net lim
-
-    lright : right? m (at_risk k net) t (starts m) (layer_at bk.layers k) ≡ true
-    lright = every_at (λ j i. right? m (at_risk j net) t (starts m) (layer_at bk.layers j)) net.places k l (and_parts (layers_right? m net t bk) _ rest_ok).0 h
-
-    glabels : Labels (given m (starts m)) (at_risk k net) t (place (layer_at bk.layers k).values)
-    glabels = sheet_labels m (at_risk k net) t (starts m) (layer_at bk.layers k) (right m (at_risk k net) t (starts m) (layer_at bk.layers k) lright)
-
-    llabels : Labels (plain m) (at_risk k net) t (place (layer_at bk.layers k).values)
-    llabels = plain_labels m M (at_risk k net) llim t (starts m) (λ j i hj. refl) _ glabels
-
-    lnexts : Nexts (plain m) (at_risk k net) t (place (layer_at bk.layers k).steps) (place (layer_at bk.layers k).nexts)
-    lnexts = plain_nexts m M (at_risk k net) llim t (starts m) (λ j i hj. refl) _ glabels _ _
-        (sheet_nexts m (at_risk k net) t (starts m) (layer_at bk.layers k) (right m (at_risk k net) t (starts m) (layer_at bk.layers k) lright)
-        (starts_lawful m M (at_risk k net) llim t (starts m) (λ j i hj. refl)))
-
-  recovered_at : (k : ℕ) (l : Link) → Holds net k l → rec k ≡ place (layer_at bk.layers k).values l.tail
-  recovered_at k l h = rw (h, recovered)
-
-  recoveries : Recoveries m M net lim t rec
-  recoveries = record {
-    some = λ k l x h e. label_best (plain m) (at_risk k net) t Value (plain_lawful m M (at_risk k net) (llim k l h)) _ (llabels k l h) l.tail x (sym (recovered_at k l h) ∙ e);
-    none = λ k l h e. label_none (plain m) (at_risk k net) t Value (plain_lawful m M (at_risk k net) (llim k l h)) _ (llabels k l h) l.tail (sym (recovered_at k l h) ∙ e);
-  }
-
-  mright : right? m net t rec bk.main ≡ true
-  mright = (and_parts (layers_right? m net t bk) _ rest_ok).1
-
-  mlabels : Labels (given m rec) net t val
-  mlabels = sheet_labels m net t rec bk.main (right m net t rec bk.main mright)
-
-  labels : Labels (worst m net t) net t val
-  labels = worst_labels m M net lim t rec recoveries val mlabels
-
-  nexts : Nexts (worst m net t) net t stp nxt
-  nexts = worst_nexts m M net lim t rec recoveries val stp nxt mlabels (sheet_nexts m net t rec bk.main (right m net t rec bk.main mright) (recoveries_lawful m M net lim t rec recoveries))
-
-  -- Reading the labels.
-  pub guarantee_right : (u g : ℕ) → val u ≡ Some g → Guarantee m net t u g
-  guarantee_right u g e = label_best (worst m net t) net t Value (worst_lawful m M net lim t) val labels u g e
-
-  pub no_guarantee_right : (u : ℕ) → val u ≡ None → NoRoute (worst m net t) net t u
-  no_guarantee_right u e = label_none (worst m net t) net t Value (worst_lawful m M net lim t) val labels u e
-
 -- A next link, by a sheet.
 abbrev next? : Sheet → ℕ → ℕ → ℕ → Bool
 next? sh t u k = not (eqb u t) && (some_and (place sh.steps u) (λ n. true) && some_and (place sh.nexts u) (λ j. eqb j k))
@@ -239,13 +169,9 @@ abbrev count : (ℕ → Option ℕ) → ℕ → ℕ
 count d zero = 0
 count d (suc n) = elim (d n) [ None ↦ count d n | Some a ↦ suc (count d n) ]
 
-abbrev is_none : Option ℕ → Bool
-is_none None = true
-is_none (Some a) = false
-
 none_is : (o : Option ℕ) → is_none o ≡ true → o ≡ None
 none_is None e = refl
-none_is (Some a) e = let z : ◌≡◌ {A = ℕ} 0 1 = cc in absurd (omega arith)
+none_is (Some a) e = absurd (both_ways false refl e)
 
 -- The trace, by all labels.
 abbrev traced? : Net → Book → ℕ → (ℕ → Bool) → ℕ → List ℕ → Bool
@@ -294,19 +220,99 @@ claims? m net t bk [] = true
 claims? m net t bk (c ∷ cs) = claim? m net t bk c && claims? m net t bk cs
 
 module _ (m : Scale) (M : Laws m) (net : Net) (t : ℕ) (bk : Book) (ok : all_right? m net t bk ≡ true) where
+  lim : Limits net
+  lim = limits_right net (and_parts (limits? net) _ ok).0
+
+  rest_ok : (layers_right? m net t bk && right? m net t (recovered net bk.layers) bk.main) ≡ true
+  rest_ok = (and_parts (limits? net) _ ok).1
+
+  abbrev rec : ℕ → Option ℕ
+  rec = recovered net bk.layers
+
+  abbrev val : ℕ → Option ℕ
+  val u = place bk.main.values u
+
+  abbrev stp : ℕ → Option ℕ
+  stp u = place bk.main.steps u
+
+  abbrev nxt : ℕ → Option ℕ
+  nxt u = place bk.main.nexts u
+
+  -- the layer "at risk with k"
+  module _ (k : ℕ) (l : Link) (h : Holds net k l) where
+    llim : Limits (at_risk k net)
+    llim = without_limits (risks net k) net lim
+
+    llawful : Lawful (plain m) (at_risk k net) Value
+    llawful = plain_lawful m M (at_risk k net) llim
+
+    lright : Right m (at_risk k net) t (starts m) (layer_at bk.layers k)
+    lright = right m (at_risk k net) t (starts m) (layer_at bk.layers k)
+        (every_at (λ j i. right? m (at_risk j net) t (starts m) (layer_at bk.layers j)) net.places k l (and_parts (layers_right? m net t bk) _ rest_ok).0 h)
+
+    glabels : Labels (given m (starts m)) (at_risk k net) t (place (layer_at bk.layers k).values)
+    glabels = sheet_labels m (at_risk k net) t (starts m) (layer_at bk.layers k) lright
+
+    llabels : Labels (plain m) (at_risk k net) t (place (layer_at bk.layers k).values)
+    llabels = plain_labels m M (at_risk k net) llim t (starts m) (λ j i hj. refl) _ glabels
+
+    lnexts : Nexts (plain m) (at_risk k net) t (place (layer_at bk.layers k).steps) (place (layer_at bk.layers k).nexts)
+    lnexts = plain_nexts m M (at_risk k net) llim t (starts m) (λ j i hj. refl) _ glabels _ _
+        (sheet_nexts m (at_risk k net) t (starts m) (layer_at bk.layers k) lright (starts_lawful m M (at_risk k net) llim t (starts m) (λ j i hj. refl)))
+
+    recovery_some : (x : ℕ) → place (layer_at bk.layers k).values l.tail ≡ Some x → Recovery m net t k l x
+    recovery_some x e = label_best (plain m) (at_risk k net) t Value llawful _ llabels l.tail x e
+
+    recovery_none : place (layer_at bk.layers k).values l.tail ≡ None → NoRoute (plain m) (at_risk k net) t l.tail
+    recovery_none e = label_none (plain m) (at_risk k net) t Value llawful _ llabels l.tail e
+
+    recovered_at : rec k ≡ place (layer_at bk.layers k).values l.tail
+    recovered_at = rw (h, recovered)
+
+  recoveries : Recoveries m M net lim t rec
+  recoveries = record {
+    some = λ k l x h e. recovery_some k l h x (sym (recovered_at k l h) ∙ e);
+    none = λ k l h e. recovery_none k l h (sym (recovered_at k l h) ∙ e);
+  }
+
+  mright : Right m net t rec bk.main
+  mright = right m net t rec bk.main (and_parts (layers_right? m net t bk) _ rest_ok).1
+
+  mlabels : Labels (given m rec) net t val
+  mlabels = sheet_labels m net t rec bk.main mright
+
+  labels : Labels (worst m net t) net t val
+  labels = worst_labels m M net lim t rec recoveries val mlabels
+
+  nexts : Nexts (worst m net t) net t stp nxt
+  nexts = worst_nexts m M net lim t rec recoveries val stp nxt mlabels (sheet_nexts m net t rec bk.main mright (recoveries_lawful m M net lim t rec recoveries))
+
+  lawful : Lawful (worst m net t) net Value
+  lawful = worst_lawful m M net lim t
+
+  made_worst : (k : ℕ) (l : Link) (v w : ℕ) → Holds net k l → made m rec k l v ≡ Some w → (worst m net t).via k l v w
+  made_worst k l v w h e = given_via m M net lim t rec recoveries k l v w h (made_via m rec k l v w e)
+
+  -- Reading the labels.
+  guarantee_right : (u g : ℕ) → val u ≡ Some g → Guarantee m net t u g
+  guarantee_right u g e = label_best (worst m net t) net t Value lawful val labels u g e
+
+  no_guarantee_right : (u : ℕ) → val u ≡ None → NoRoute (worst m net t) net t u
+  no_guarantee_right u e = label_none (worst m net t) net t Value lawful val labels u e
+
   main_next : (u k : ℕ) → next? bk.main t u k ≡ true → (l : Link) × Next (worst m net t) net t u k l
-  main_next u k h = next_right (worst m net t) net t (worst_lawful m M net (lim m M net t bk ok) t) bk.main (labels m M net t bk ok) (nexts m M net t bk ok) u k h
+  main_next u k h = next_right (worst m net t) net t lawful bk.main labels nexts u k h
 
   layer_held : (u k : ℕ) (l : Link) (ks : List ℕ) → Next (worst m net t) net t u k l → held? (at_risk k net) (layer_at bk.layers k) t u ks ≡ true → Backup m net t k ks
   layer_held u k l ks K h =
-      let H = held_right (plain m) (at_risk k net) t (plain_lawful m M (at_risk k net) (llim m M net t bk ok k l K.holds)) (layer_at bk.layers k)
-      (llabels m M net t bk ok k l K.holds) (lnexts m M net t bk ok k l K.holds) u ks h in
+      let H = held_right (plain m) (at_risk k net) t (llawful k l K.holds) (layer_at bk.layers k)
+      (llabels k l K.holds) (lnexts k l K.holds) u ks h in
       (l, K.holds, subst (λ x. Held (plain m) (at_risk k net) t x ks) (sym K.starts) H)
 
   traced_right : (fails : ℕ → Bool) (u : ℕ) (ks : List ℕ) → traced? net bk t fails u ks ≡ true → Traced m net t fails u ks
   traced_right fails u [] h = arrived (eqb-true u t h)
   traced_right fails u (k ∷ ks) h =
-      let (j, ej, p) = some_and_at (place bk.main.nexts u) _ h in
+      let (j, ej, p) = some_and_at (nxt u) _ h in
       let (a, q) = and_parts (next? bk.main t u j) _ p in
       let (l, J) = main_next u j a in
       go j l J (fails j) refl q (λ i. traced_right fails i.head ks)
@@ -323,14 +329,14 @@ module _ (m : Scale) (M : Laws m) (net : Net) (t : ℕ) (bk : Book) (ok : all_ri
           let z = same_link net k i l ei K.holds in
           onward K (sym (ap fails jk) ∙ e) (subst (λ x. Traced m net t fails x.head ks) z (rest i q))
 
-  counted : (n : ℕ) → Counted (λ u. ∥ ((g : ℕ) × Guarantee m net t u g) ∥₁) n (count (place bk.main.values) n)
+  counted : (n : ℕ) → Counted (λ u. ∥ ((g : ℕ) × Guarantee m net t u g) ∥₁) n (count val n)
   counted zero = none
-  counted (suc n) = go (place bk.main.values n) refl (counted n)
+  counted (suc n) = go (val n) refl (counted n)
     where
-      go : (o : Option ℕ) → place bk.main.values n ≡ o → Counted (λ u. ∥ ((g : ℕ) × Guarantee m net t u g) ∥₁) n (count (place bk.main.values) n) →
-          Counted (λ u. ∥ ((g : ℕ) × Guarantee m net t u g) ∥₁) (suc n) (elim o [ None ↦ count (place bk.main.values) n | Some a ↦ suc (count (place bk.main.values) n) ])
-      go None e ih = skip (λ x. ∥∥₁_elim x ⊥_prop (λ g. ∥∥₁_elim g.1.reached ⊥_prop (λ c. no_guarantee_right m M net t bk ok n e c.0 g.0 c.1))) ih
-      go (Some g) e ih = one ∣ (g, guarantee_right m M net t bk ok n g e) ∣₁ ih
+      go : (o : Option ℕ) → val n ≡ o → Counted (λ u. ∥ ((g : ℕ) × Guarantee m net t u g) ∥₁) n (count val n) →
+          Counted (λ u. ∥ ((g : ℕ) × Guarantee m net t u g) ∥₁) (suc n) (elim o [ None ↦ count val n | Some a ↦ suc (count val n) ])
+      go None e ih = skip (λ x. ∥∥₁_elim x ⊥_prop (λ g. ∥∥₁_elim g.1.reached ⊥_prop (λ c. no_guarantee_right n e c.0 g.0 c.1))) ih
+      go (Some g) e ih = one ∣ (g, guarantee_right n g e) ∣₁ ih
 
   traced_all_right : (u : ℕ) (ks : List ℕ) (fs : List Failure) → traced_all? net bk t u ks fs ≡ true → TracedAll m net t u ks fs
   traced_all_right u ks [] h = tt
@@ -340,26 +346,25 @@ module _ (m : Scale) (M : Laws m) (net : Net) (t : ℕ) (bk : Book) (ok : all_ri
 
   -- which links are tight, by the labels
   abbrev tight? : ℕ → Link → Bool
-  tight? k l = met? m t (recovered net bk.layers) bk.main.values k l
+  tight? k l = met? m t rec bk.main.values k l
 
   tight_to : (k : ℕ) (l : Link) → Holds net k l → tight? k l ≡ true → Tight (worst m net t) net t k l
   tight_to k l h e =
       let (n, e1) = and_parts (not (eqb l.tail t)) _ e in
-      let (b, hb, e2) = some_and_at (place bk.main.values l.head) _ e1 in
-      let (w, hw, e3) = some_and_at (made m (recovered net bk.layers) k l b) _ e2 in
-      let (a, ha, e4) = some_and_at (place bk.main.values l.tail) _ e3 in
-      let g = given_via m M net (lim m M net t bk ok) t (recovered net bk.layers) (recoveries m M net t bk ok) k l b w h (made_via m (recovered net bk.layers) k l b w hw) in
-      tight_labels (worst m net t) net t Value (worst_lawful m M net (lim m M net t bk ok) t) (place bk.main.values) (labels m M net t bk ok) k l b a
-      (eqb-false l.tail t (not-true _ n)) hb ha (subst (λ x. (worst m net t).via k l b x) (sym (eqb-true a w e4)) g)
+      let (b, hb, e2) = some_and_at (val l.head) _ e1 in
+      let (w, hw, e3) = some_and_at (made m rec k l b) _ e2 in
+      let (a, ha, e4) = some_and_at (val l.tail) _ e3 in
+      tight_labels (worst m net t) net t Value lawful val labels k l b a
+      (eqb-false l.tail t (not-true _ n)) hb ha (subst (λ x. (worst m net t).via k l b x) (sym (eqb-true a w e4)) (made_worst k l b w h hw))
 
   tight_from : (k : ℕ) (l : Link) → Holds net k l → Tight (worst m net t) net t k l → tight? k l ≡ true
   tight_from k l h T =
-      let (b, a, hb, ha, v) = labels_tight (worst m net t) net t Value (worst_lawful m M net (lim m M net t bk ok) t) (place bk.main.values) (labels m M net t bk ok) k l T in
-      let g = worst_via m M net (lim m M net t bk ok) t (recovered net bk.layers) (recoveries m M net t bk ok) k l b a h v in
+      let (b, a, hb, ha, v) = labels_tight (worst m net t) net t Value lawful val labels k l T in
+      let g = worst_via m M net lim t rec recoveries k l b a h v in
       and_from (not (eqb l.tail t)) _ (ap not (ne_eqb l.tail t T.elsewhere))
-      (some_and_from (place bk.main.values l.head) _ b hb
-      (some_and_from (made m (recovered net bk.layers) k l b) _ a (via_made m (recovered net bk.layers) k l b a g)
-      (some_and_from (place bk.main.values l.tail) _ a ha (eq-eqb a a refl))))
+      (some_and_from (val l.head) _ b hb
+      (some_and_from (made m rec k l b) _ a (via_made m rec k l b a g)
+      (some_and_from (val l.tail) _ a ha (eq-eqb a a refl))))
 
   tight_right : (ks : List ℕ) → every (λ k l. same (tight? k l) (among k ks)) net.places ≡ true →
       (k : ℕ) (l : Link) → Holds net k l → Tight (worst m net t) net t k l ↔ (among k ks ≡ true)
@@ -377,32 +382,30 @@ module _ (m : Scale) (M : Laws m) (net : Net) (t : ℕ) (bk : Book) (ok : all_ri
   claim_right (recovery k r) h =
       let (l, hl, q) = recovery_right k (λ o. some_and o (λ x. eqb x r)) h in
       let (x, ex, z) = some_and_at (place (layer_at bk.layers k).values l.tail) (λ x. eqb x r) q in
-      (l, hl, label_best (plain m) (at_risk k net) t Value (plain_lawful m M (at_risk k net) (llim m M net t bk ok k l hl)) _ (llabels m M net t bk ok k l hl) l.tail r (ex ∙ ap Some (eqb-true x r z)))
+      (l, hl, recovery_some k l hl r (ex ∙ ap Some (eqb-true x r z)))
   claim_right (no_recovery k) h =
       let (l, hl, q) = recovery_right k is_none h in (
         l,
         hl,
         λ some.
-            let (r, R) = (recovery_exists m M net (lim m M net t bk ok) t k l).0 some in
-            let none = label_none (plain m) (at_risk k net) t Value (plain_lawful m M (at_risk k net) (llim m M net t bk ok k l hl)) _ (llabels m M net t bk ok k l hl) l.tail (none_is _ q) in
-            ∥∥₁_elim R.reached ⊥_prop (λ (ks, W). none ks r W),
+            let (r, R) = (recovery_exists m M net lim t k l).0 some in
+            ∥∥₁_elim R.reached ⊥_prop (λ (ks, W). recovery_none k l hl (none_is _ q) ks r W),
       )
   claim_right (worst_value u ks v) h =
-      let (w, W, z) = value_right (worst m net t) (made m (recovered net bk.layers)) net t
-      (λ k l x w hl e. given_via m M net (lim m M net t bk ok) t (recovered net bk.layers) (recoveries m M net t bk ok) k l x w hl (made_via m (recovered net bk.layers) k l x w e)) u ks (λ w. eqb w v) h in
+      let (w, W, z) = value_right (worst m net t) (made m rec) net t made_worst u ks (λ w. eqb w v) h in
       subst (λ x. RouteValue (worst m net t) net t u ks x) (eqb-true w v z) W
-  claim_right (guarantee u g) h = let (a, ea, z) = some_and_at (place bk.main.values u) _ h in guarantee_right m M net t bk ok u g (ea ∙ ap Some (eqb-true a g z))
-  claim_right (no_guarantee u) h = no_guarantee_right m M net t bk ok u (none_is _ h)
+  claim_right (guarantee u g) h = let (a, ea, z) = some_and_at (val u) _ h in guarantee_right u g (ea ∙ ap Some (eqb-true a g z))
+  claim_right (no_guarantee u) h = no_guarantee_right u (none_is _ h)
   claim_right (planned c) h = subst (λ x. Planned m net t x) (eqb-true _ _ h) (counted net.nodes)
   claim_right (tight_links ks) h = tight_right ks h
   claim_right (steps u n) h =
-      let (c, ec, z) = some_and_at (place bk.main.steps u) _ h in
-      steps_label (worst m net t) net t Value (worst_lawful m M net (lim m M net t bk ok) t) (place bk.main.values) (labels m M net t bk ok)
-      (place bk.main.steps) (place bk.main.nexts) (nexts m M net t bk ok) u n (ec ∙ ap Some (eqb-true c n z))
+      let (c, ec, z) = some_and_at (stp u) _ h in
+      steps_label (worst m net t) net t Value lawful val labels
+      stp nxt nexts u n (ec ∙ ap Some (eqb-true c n z))
   claim_right (next_link u k) h = main_next u k h
-  claim_right (held u ks) h = held_right (worst m net t) net t (worst_lawful m M net (lim m M net t bk ok) t) bk.main (labels m M net t bk ok) (nexts m M net t bk ok) u ks h
+  claim_right (held u ks) h = held_right (worst m net t) net t lawful bk.main labels nexts u ks h
   claim_right (backup u ks) h =
-      let (k, ek, p) = some_and_at (place bk.main.nexts u) _ h in
+      let (k, ek, p) = some_and_at (nxt u) _ h in
       let (a, q) = and_parts (next? bk.main t u k) _ p in
       let (l, K) = main_next u k a in
       (k, l, K, layer_held u k l ks K q)

@@ -11,9 +11,9 @@ use Rattle.definitions.specs.Measures.{Scale, Laws, worse}
 use Rattle.definitions.specs.Routes.{Valuation, Route, RouteValue, Best, Steps, Next, Held}
 use Rattle.definitions.specs.Plans.{plain, worst, Recovery, Guarantee, Backup, Traced, arrived, onward, turned}
 use Rattle.definitions.proofs.Fixpoint.{best_one, best_fits, itself, value_fits}
-use Rattle.definitions.proofs.Layers.{below, above, same_link, without_limits}
+use Rattle.definitions.proofs.Layers.{below, above, same_link, same_at, without_limits}
 use Rattle.definitions.proofs.Lawfuls.{Value, plain_lawful, worst_lawful, worse_fits, worse_left, worse_right, worse_one, recovery_fits}
-use Rattle.definitions.proofs.Following.{steps_one, steps_held, held_value, start_best, next_one, next_away, held_one}
+use Rattle.definitions.proofs.Following.{steps_one, steps_held, held_value, best_at_end, next_one, next_away, held_one}
 
 -- Routes and values pass from a network to one that holds as much.
 pub route_over : (A B : Net) → ((k : ℕ) (l : Link) → Holds A k l → Holds B k l) → (t u : ℕ) (ks : List ℕ) → Route A t u ks → Route B t u ks
@@ -94,7 +94,7 @@ module _ (m : Scale) (M : Laws m) (net : Net) (N : Limits net) (t : ℕ) where
   pub traced_value : (fails : ℕ → Bool) (u g : ℕ) (ks : List ℕ) → Guarantee m net t u g → Traced m net t fails u ks →
       (w : ℕ) × RouteValue (plain m) net t u ks w × (m.no_worse w g ≡ true)
   traced_value fails u g ks G (arrived p) =
-      let e : g ≡ m.start = best_one (worst m net t) net t Value (worst_lawful m M net N t) t g m.start (subst (λ x. Guarantee m net t x g) p G) (start_best (worst m net t) net t Value (worst_lawful m M net N t)) in
+      let e = best_at_end (worst m net t) net t Value (worst_lawful m M net N t) u g p G in
       (g, (p, e), itself (worst m net t) net t Value (worst_lawful m M net N t) g (guarantee_fits u g G))
   traced_value fails u g ks G (onward {k = k} {l = l} {ks = js} K e rest) = go K.tight.exact (traced_value fails l.head K.tight.beyond js K.tight.best_beyond rest)
     where
@@ -153,7 +153,7 @@ module _ (m : Scale) (M : Laws m) (net : Net) (N : Limits net) (t : ℕ) where
   near_spares n k l Nothing p h S = refl
   near_spares n k l (OneLink j) (i, s, hi, Si, le) h S =
       ne_eqb k j (λ e.
-      let q : i ≡ l = same_link net k i l (subst (λ x. Holds net x i) (sym e) hi) h in
+      let q : i ≡ l = same_at net j k i l (sym e) hi h in
       let z : s ≡ suc n = steps_one (worst m net t) net t l.tail s (suc n) (subst (λ x. Steps (worst m net t) net t x.tail s) q Si) S in
       omega arith)
   near_spares n k l (OneGroup b) p h S = absurd p
@@ -162,8 +162,7 @@ module _ (m : Scale) (M : Laws m) (net : Net) (N : Limits net) (t : ℕ) where
   pub traced_tight : Backups → (u g : ℕ) (ks : List ℕ) → Guarantee m net t u g → Held (worst m net t) net t u ks →
       (f : Failure) × (js : List ℕ) × Near (length ks) f × Traced m net t (failed net f) u js × RouteValue (plain m) net t u js g
   traced_tight bs u g [] G p =
-      let e : g ≡ m.start = best_one (worst m net t) net t Value (worst_lawful m M net N t) t g m.start (subst (λ x. Guarantee m net t x g) p G) (start_best (worst m net t) net t Value (worst_lawful m M net N t)) in
-      (Nothing, [], tt, arrived p, (p, e))
+      (Nothing, [], tt, arrived p, (p, best_at_end (worst m net t) net t Value (worst_lawful m M net N t) u g p G))
   traced_tight bs u g (k ∷ ks) G (l, K, p) =
       go K.tight.exact (traced_tight bs l.head K.tight.beyond ks K.tight.best_beyond p)
     where
@@ -209,15 +208,15 @@ module _ (m : Scale) (net : Net) (t : ℕ) where
   traced_one fails u ks js (turned {k = k} {l = l} K e B) (arrived q) = absurd (next_away (worst m net t) net t u k l K q)
   traced_one fails u ks js (onward {k = k} {l = l} {ks = k1} K e r) (onward {k = j} {l = i} {ks = k2} J f s) =
       let q = next_one (worst m net t) net t u k j l i K J in
-      let z = same_link net k l i K.holds (subst (λ x. Holds net x i) (sym q) J.holds) in
-      let s' : Traced m net t fails l.head k2 = subst (λ x. Traced m net t fails x.head k2) (sym z) s in
+      let z = same_at net j k i l (sym q) J.holds K.holds in
+      let s' : Traced m net t fails l.head k2 = subst (λ x. Traced m net t fails x.head k2) z s in
       let y = traced_one fails l.head k1 k2 r s' in
       cc
   traced_one fails u ks js (onward {k = k} {l = l} K e r) (turned {k = j} {l = i} J f B) =
       let q = next_one (worst m net t) net t u k j l i K J in
-      let z : true ≡ false = sym f ∙ (ap fails (sym q) ∙ e) in absurd (both_ways true z refl)
+      absurd (both_ways (fails k) e (ap fails q ∙ f))
   traced_one fails u ks js (turned {k = k} {l = l} K e B) (onward {k = j} {l = i} J f s) =
       let q = next_one (worst m net t) net t u k j l i K J in
-      let z : true ≡ false = sym e ∙ (ap fails q ∙ f) in absurd (both_ways true z refl)
+      absurd (both_ways (fails k) (ap fails q ∙ f) e)
   traced_one fails u ks js (turned {k = k} {l = l} K e B) (turned {k = j} {l = i} J f C) =
       backup_one k ks js B (subst (λ x. Backup m net t x js) (sym (next_one (worst m net t) net t u k j l i K J)) C)

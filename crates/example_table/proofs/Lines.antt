@@ -1,11 +1,6 @@
 -- Each line of the table is true.
-use mathlib.Core.Path.{◌≡◌, refl}
-use mathlib.Core.List.{List, [], ◌∷◌, ◌++◌, map}
-use mathlib.Core.Bool.{Bool, true, false}
-use mathlib.Core.Logic.{inl, inr}
-use Prim.Native.Nat.{ℕ}
-use native.Mathlib.Omega.{arith}
-use lib.Dec.{lit<}
+use Rattle.std.proofs.Common.{◌≡◌, refl, List, [], ◌∷◌, ◌++◌, map, true, false, inl, inr, arith}
+use Rattle.std.proofs.lemmas.Bool.{both_ways}
 use Rattle.definitions.specs.declared.Link.{Link}
 use Rattle.definitions.specs.Example.{by_delay, scale, Case, AllCases, example, table}
 use Rattle.definitions.proofs.Tables.{table_right}
@@ -15,11 +10,8 @@ use Rattle.histories.specs.Histories.{Latest, newest, before, Withdrawn, Ran}
 use Rattle.example_table.specs.Table.{Line, claimed, withdraw_refused, refused, LineHolds, AllLines, withdrawn_and_planned, lines}
 
 -- Of no calls none is the latest.
-nothing : {P : Call → Type 0} {c : Call} {X : Type 0} → Latest P c [] → X
+nothing : {P : Call → Type 0} {c : Call} → Latest P c [] → ⊥
 nothing l = elim l [ ]
-
-not-true : {X : Type 0} → ◌≡◌ {A = Bool} false true → X
-not-true e = let z : ◌≡◌ {A = ℕ} 0 1 = cc in absurd (omega arith)
 
 abbrev link_4 : Link
 link_4 = record { tail = 0; head = 2; figure = 5; groups = 0 }
@@ -29,9 +21,9 @@ out = before _ (λ p e. p) (newest _ refl refl refl)
 
 ran : Ran (scale by_delay) (example 0) (refused 4 ∷ withdrawn_and_planned)
 ran = (
-  (λ w m. (not-true, again)),
+  (λ w m. ((λ e. absurd (both_ways false refl e)), again)),
   (
-    (λ w m. (λ e. inl (lit< tt, tt), λ a. refl)),
+    (λ w m. (λ e. inl (omega arith, tt), λ a. refl)),
     (
       (λ w m. (λ e. inl (link_4, refl, inl (nothing, tt)), λ a. refl)),
       tt,
@@ -48,7 +40,7 @@ last_line : LineHolds (withdraw_refused by_delay (example 0) withdrawn_and_plann
 last_line = (
   ran,
   inl (link_4, refl, inr ((λ free. free out), refl)),
-  before _ (λ p e. not-true e) (newest _ refl refl tt),
+  before _ (λ p e. absurd (both_ways false refl e)) (newest _ refl refl tt),
 )
 
 claims_first : (cs : List Case) (ls : List Line) → AllCases 3 cs → AllLines ls → AllLines (map claimed cs ++ ls)
@@ -57,5 +49,4 @@ claims_first (x ∷ xs) ls (c, cs) r = (c, claims_first xs ls cs r)
 
 pub all_lines : AllLines lines
 all_lines =
-    let last : AllLines (withdraw_refused by_delay (example 0) withdrawn_and_planned 4 9 3 ∷ []) = (last_line, tt) in
-    claims_first table (withdraw_refused by_delay (example 0) withdrawn_and_planned 4 9 3 ∷ []) table_right last
+    claims_first table (withdraw_refused by_delay (example 0) withdrawn_and_planned 4 9 3 ∷ []) table_right (last_line, tt)
