@@ -7,9 +7,10 @@ use Rattle.std.proofs.lemmas.Bool.Decides.{nat_tests}
 use Rattle.std.proofs.lemmas.Option.{none-some}
 use Rattle.definitions.specs.declared.Link.{Link}
 use Rattle.definitions.specs.Networks.{Net, AllSound, Sound, place, listed}
+use Rattle.std.specs.Option.{option_or}
 use Rattle.networks.specs.declared.draft.DraftFault.{DraftFault}
 use Rattle.networks.specs.declared.draft.DraftFault.TheVariants.{NoMemory}
-use Rattle.networks.specs.Drafts.{refusal, first_refusal, network_fault, or_else, or_memory, Added, answered}
+use Rattle.networks.specs.Drafts.{refusal, first_refusal, network_fault, or_memory, Added, answered}
 
 pub sound_push : (nodes : ℕ) (ls : List Link) (l : Link) → AllSound (listed nodes ls) → Sound nodes l → AllSound (listed nodes (ls ++ (l ∷ [])))
 sound_push nodes [] l all s zero x e = let p : l ≡ x = cc in rw p at s
@@ -34,11 +35,11 @@ pub answered_err : {F : Type 0} (o : Option F) (f : F) → Err f ≡ answered o 
 answered_err (Some g) f e = grind arith
 answered_err None f e = grind arith
 
-pub both_none : {F : Type 0} (a b : Option F) → or_else a b ≡ None → (a ≡ None) × (b ≡ None)
+pub both_none : {F : Type 0} (a b : Option F) → option_or a b ≡ None → (a ≡ None) × (b ≡ None)
 both_none None b e = (refl, e)
 both_none (Some f) b e = absurd (none-some f (sym e))
 
-pub after_none : {F : Type 0} (a b : Option F) → a ≡ None → or_else a b ≡ b
+pub after_none : {F : Type 0} (a b : Option F) → a ≡ None → option_or a b ≡ b
 after_none None b e = refl
 after_none (Some f) b e = absurd (none-some f (sym e))
 
@@ -59,7 +60,7 @@ pub refusal_at : (nodes j : ℕ) (ls : List Link) (i : ℕ) (d : Link) (f : Draf
     refusal nodes (j + i) (slice_index_or ls i d) ≡ Some f → first_refusal nodes j ls ≡ Some f
 refusal_at nodes j [] i d f lt before here = absurd (omega arith)
 refusal_at nodes j (l ∷ ls) zero d f lt before here =
-    ap (λ o. or_else o (first_refusal nodes (j + 1) ls)) (rw (add-zero j) at here)
+    ap (λ o. option_or o (first_refusal nodes (j + 1) ls)) (rw (add-zero j) at here)
 refusal_at nodes j (l ∷ ls) (suc i) d f lt before here =
     let both = both_none (refusal nodes j l) (first_refusal nodes (j + 1) (take i ls)) before in
     let same : j + suc i ≡ j + 1 + i = omega arith in

@@ -1,5 +1,6 @@
 -- What a draft and a book stand for, and what each call of a draft does.
 use Rattle.std.specs.Prelude.{◌≡◌, ℕ, ◌+◌, ◌≤◌, cond, ◌||◌, ◌⊎◌, List, [], ◌∷◌, ◌++◌, length, Some, None, Ok, Err, vec_items, Option, Result, ◌==◌, nat_le, nat_lt}
+use Rattle.std.specs.Option.{option_or}
 use Rattle.std.proofs.Common.{arith}
 use Rattle.std.proofs.lemmas.List.{length-map}
 use Rattle.definitions.specs.declared.Link.{Link}
@@ -25,11 +26,6 @@ refusal nodes place l =
     (cond (nat_le nodes l.head) (Some (HeadBeyond place))
     (cond (l.tail == l.head) (Some (SameEnds place)) None)))
 
--- The first of two faults.
-abbrev pub or_else : {F : Type 0} → Option F → Option F → Option F
-or_else (Some f) next = Some f
-or_else None next = next
-
 -- The answer of a check that found this fault, or none.
 abbrev pub answered : {F : Type 0} → Option F → Result Unit F
 answered None = Ok tt
@@ -54,7 +50,7 @@ Sized old count (Err f) new = ((1 ≤ count) → (count ≤ 256) → ⊥) × (f 
 -- The first fault of these links, the first of which fills place k of so many nodes.
 abbrev pub first_refusal : ℕ → ℕ → List Link → Option DraftFault
 first_refusal nodes k [] = None
-first_refusal nodes k (l ∷ ls) = or_else (refusal nodes k l) (first_refusal nodes (k + 1) ls)
+first_refusal nodes k (l ∷ ls) = option_or (refusal nodes k l) (first_refusal nodes (k + 1) ls)
 
 -- The first fault of a network that is to have so many nodes and these links.
 abbrev pub network_fault : ℕ → List Link → Option DraftFault
