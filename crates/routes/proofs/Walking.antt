@@ -1,5 +1,5 @@
 -- Walks along next links.
-use Rattle.std.proofs.Common.{◌≡◌, ℕ, ◌+◌, ◌<◌, true, false, List, [], ◌∷◌, ◌++◌, length, fold, reverse, take, set, is_some, Some, None, Option, sym, refl, ap, ◌∙◌, subst, append_assoc, append-nil, arith, length-append, length-take}
+use Rattle.std.proofs.Common.{◌≡◌, ℕ, ◌+◌, ◌<◌, true, false, List, [], ◌∷◌, ◌++◌, length, fold, reverse, take, set, is_some, Some, None, Option, sym, refl, ap, ◌∙◌, subst, append_assoc, arith, length-append, length-take}
 use mathlib.Core.List.{reverse-cons}
 use Rattle.std.proofs.lemmas.List.{take_more_set}
 use Rattle.std.proofs.lemmas.List.Sums.{fold-append}
@@ -47,10 +47,6 @@ module _ (net : Net) (nx : ℕ → Option ℕ) where
         subst (λ x. Leads net nx e x.head is) ol Q,
         ap (λ x. x ++ is) a ∙ (append_assoc (take i places) (k ∷ []) is ∙ (ap (λ x. take i places ++ (x ∷ is)) (sym kj) ∙ (ap (λ x. take i places ++ x) (sym ej) ∙ q))),
       )
-
-  pub wrote_all : (places js ks : List ℕ) → places ++ js ≡ ks → length ks ≡ length places → places ≡ ks
-  wrote_all places [] ks q z = sym (append-nil places) ∙ q
-  wrote_all places (j ∷ js) ks q z = let a = ap length q in let b = length-append places (j ∷ js) in absurd (omega arith)
 
   -- one more link to the end of a way
   pub leads_more : (u v k : ℕ) (l : Link) (js : List ℕ) → Leads net nx v u js → nx v ≡ Some k → Holds net k l → Leads net nx l.head u (js ++ (k ∷ []))
