@@ -1,9 +1,8 @@
 -- Plain values, worst values and counts of tight links are lawful.
-use Rattle.std.proofs.Common.{◌≡◌, ℕ, suc, ◌^◌, ◌<◌, Bool, true, false, cond, ◌⊎◌, refl, inl, inr, arith}
+use Rattle.std.proofs.Common.{◌≡◌, ℕ, suc, ◌^◌, ◌<◌, Bool, true, false, cond, ◌⊎◌, refl, inl, inr, le_antisymm, arith}
 use mathlib.Core.HLevel.{Unit-prop}
 use native.Mathlib.Bridge.{le_prop}
-use Rattle.std.proofs.lemmas.Bool.{both_ways, leb-true, le-leb}
-use Rattle.std.proofs.lemmas.Bool.Decides.{nat_tests}
+use Rattle.std.proofs.lemmas.Bool.{both_ways, leb-true, le-leb, cases_lt}
 use Rattle.definitions.specs.declared.Link.{Link}
 use Rattle.definitions.specs.Networks.{Net, Holds, Limits, at_risk, risks}
 use Rattle.definitions.specs.Measures.{Scale, Laws, worse}
@@ -106,9 +105,9 @@ count_lawful ρ net t = record {
   fit_prop = λ v. Unit-prop;
   start_fits = tt;
   via_fits = λ k l v w h f e. tt;
-  one_is = λ a b p q. grind (arith, nat_tests);
-  chains = λ a b c fa fb fc p q. grind (arith, nat_tests);
-  equal = λ a b fa fb p q. grind (arith, nat_tests);
+  one_is = λ a b p q. elim (cases_lt a b) [ inl h ↦ inl (le-leb a b (omega arith)) | inr h ↦ inr (le-leb b a h) ];
+  chains = λ a b c fa fb fc p q. le-leb a c (omega (arith, leb-true a b p, leb-true b c q));
+  equal = λ a b fa fb p q. le_antisymm (leb-true a b p) (leb-true b a q);
   keeps = λ k l a b v w h fa fb le p q. le-leb v w (omega (arith, leb-true a b le, p.1, q.1));
   never_better = λ k l v w h f e. le-leb v w (omega (arith, e.1));
   via_any = λ k l a b v h fa fb p. (suc b, (p.0, refl));
