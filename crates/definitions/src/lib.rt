@@ -20,6 +20,18 @@ pub struct Link {
 pub const GROUP_COUNT: u16 = 32;
 
 impl Link {
+    // A link from its tail to its head, with a figure and risk groups.
+    pub fn new(tail: u16, head: u16, figure: u32, groups: u32) -> Link
+        ensures { result ≡ record { tail = tail; head = head; figure = figure; groups = groups } }
+    {
+        Link {
+            tail,
+            head,
+            figure,
+            groups,
+        }
+    }
+
     // Does the link belong to risk group b? No link belongs to a group that there is not.
     pub fn in_group(self, b: u16) -> bool
         ensures { result ≡ in_group b (Some self) }

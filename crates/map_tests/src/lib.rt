@@ -105,22 +105,12 @@ mod tests {
         Ok(())
     }
 
-    // A link without groups.
-    fn link(tail: u16, head: u16, figure: u32) -> Link {
-        Link {
-            tail,
-            head,
-            figure,
-            groups: 0,
-        }
-    }
-
     // A draft with two nodes and this many links from 0 to 1.
     fn parallel_links(heap: Global, links: usize) -> Result<Draft, Fail> {
         let mut draft = Draft::new(heap);
         draft.size(2)?;
         for _ in 0..links {
-            draft.add(link(0, 1, 0))?;
+            draft.add(Link::new(0, 1, 0, 0))?;
         }
         Ok(draft)
     }
@@ -128,7 +118,10 @@ mod tests {
     #[test]
     fn full_draft(rt: HostRuntime) -> Result<(), Fail> {
         let mut draft = parallel_links(rt.alloc(), 1024)?;
-        assert_eq!(rt; draft.add(link(9, 9, 0)), Err(DraftFault::Full(1024)));
+        assert_eq!(rt;
+            draft.add(Link::new(9, 9, 0, 0)),
+            Err(DraftFault::Full(1024))
+        );
         let book = draft.close();
         assert_eq!(rt; book.place_count(), 1024);
         let mut out = vec![in rt.alloc(); 7u8; 12_293]?;
@@ -149,17 +142,26 @@ mod tests {
         let mut draft = Draft::new(rt.alloc());
         assert_eq!(rt; draft.size(0), Err(DraftFault::NodeCount(0)));
         assert_eq!(rt; draft.size(257), Err(DraftFault::NodeCount(257)));
-        assert_eq!(rt; draft.add(link(0, 1, 1)), Err(DraftFault::TailBeyond(0)));
-        assert_eq!(rt; draft.size(256), Ok(()));
-        assert_eq!(rt; draft.add(link(255, 0, 1)), Ok(0));
         assert_eq!(rt;
-            draft.add(link(256, 256, 1)),
+            draft.add(Link::new(0, 1, 1, 0)),
+            Err(DraftFault::TailBeyond(0))
+        );
+        assert_eq!(rt; draft.size(256), Ok(()));
+        assert_eq!(rt; draft.add(Link::new(255, 0, 1, 0)), Ok(0));
+        assert_eq!(rt;
+            draft.add(Link::new(256, 256, 1, 0)),
             Err(DraftFault::TailBeyond(1))
         );
-        assert_eq!(rt; draft.add(link(0, 256, 1)), Err(DraftFault::HeadBeyond(1)));
-        assert_eq!(rt; draft.add(link(4, 4, 1)), Err(DraftFault::SameEnds(1)));
+        assert_eq!(rt;
+            draft.add(Link::new(0, 256, 1, 0)),
+            Err(DraftFault::HeadBeyond(1))
+        );
+        assert_eq!(rt;
+            draft.add(Link::new(4, 4, 1, 0)),
+            Err(DraftFault::SameEnds(1))
+        );
         let mut again = draft.close().reopen();
-        assert_eq!(rt; again.add(link(0, 255, 1)), Ok(1));
+        assert_eq!(rt; again.add(Link::new(0, 255, 1, 0)), Ok(1));
         assert_eq!(rt; again.size(1), Ok(()));
         let book = again.close();
         assert_eq!(rt; book.node_count(), 1);
@@ -169,13 +171,8 @@ mod tests {
     // Three nodes: a link with the largest figure and all groups, and one with figure 0 and no group.
     fn extremes(heap: Global) -> Result<Book, Fail> {
         let links = [
-            Link {
-                tail: 0,
-                head: 1,
-                figure: 4_294_967_295,
-                groups: 4_294_967_295,
-            },
-            link(2, 1, 0),
+            Link::new(0, 1, 4_294_967_295, 4_294_967_295),
+            Link::new(2, 1, 0, 0),
         ];
         Ok(Book::from_links(heap, 3, &links)?)
     }

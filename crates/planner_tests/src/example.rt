@@ -8,28 +8,18 @@ use planner::planner::Planner;
 use std::alloc::Global;
 use std::test::Fail;
 
-// A link with its tail, head, figure and groups.
-fn link(tail: u16, head: u16, figure: u32, groups: u32) -> Link {
-    Link {
-        tail,
-        head,
-        figure,
-        groups,
-    }
-}
-
 // Four nodes and six links; `duct` is the groups of links 1 and 3.
 pub(crate) fn example(heap: Global, duct: u32) -> Result<Book, DraftFault> {
     Book::from_links(
         heap,
         4,
         &[
-            link(0, 1, 2, 0),
-            link(1, 3, 3, duct),
-            link(1, 2, 9, 0),
-            link(2, 3, 4, duct),
-            link(0, 2, 5, 0),
-            link(2, 1, 2, 0),
+            Link::new(0, 1, 2, 0),
+            Link::new(1, 3, 3, duct),
+            Link::new(1, 2, 9, 0),
+            Link::new(2, 3, 4, duct),
+            Link::new(0, 2, 5, 0),
+            Link::new(2, 1, 2, 0),
         ],
     )
 }

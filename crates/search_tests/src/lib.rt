@@ -16,52 +16,17 @@ mod tests {
     use std::process::Abort;
     use std::test::Fail;
 
-    // A link in no risk group.
-    fn link(tail: u16, head: u16, figure: u32) -> Link {
-        Link {
-            tail,
-            head,
-            figure,
-            groups: 0,
-        }
-    }
-
-    // A network of so many nodes with these links.
-    fn network(heap: Global, nodes: usize, links: &[Link]) -> Result<Book, Fail> {
-        let mut draft = Draft::new(heap);
-        draft.size(nodes)?;
-        for link in links {
-            draft.add(*link)?;
-        }
-        Ok(draft.close())
-    }
-
     // The example network: four nodes, links 0 to 5, of which links 1 and 3 have these groups.
     fn example(heap: Global, groups: u32) -> Result<Book, Fail> {
-        let first = Link {
-            tail: 1,
-            head: 3,
-            figure: 3,
-            groups,
-        };
-        let second = Link {
-            tail: 2,
-            head: 3,
-            figure: 4,
-            groups,
-        };
-        network(
-            heap,
-            4,
-            &[
-                link(0, 1, 2),
-                first,
-                link(1, 2, 9),
-                second,
-                link(0, 2, 5),
-                link(2, 1, 2),
-            ],
-        )
+        let links = [
+            Link::new(0, 1, 2, 0),
+            Link::new(1, 3, 3, groups),
+            Link::new(1, 2, 9, 0),
+            Link::new(2, 3, 4, groups),
+            Link::new(0, 2, 5, 0),
+            Link::new(2, 1, 2, 0),
+        ];
+        Ok(Book::from_links(heap, 4, &links)?)
     }
 
     // The first items are these, and the one after them is none.
@@ -200,14 +165,14 @@ mod tests {
     fn no_places_and_one_node(rt: HostRuntime) -> Result<(), Fail> {
         let mut workspace = Workspace::new();
         let mut records = [NodeRecord::default(); 256];
-        let apart = network(rt.alloc(), 2, &[])?;
+        let apart = Book::from_links(rt.alloc(), 2, &[])?;
         plain_tables::<Book, Width>(&apart, 1, &mut records, &mut workspace)?;
         values_are(&rt, &records, &[None, Some(4_294_967_295)]);
         assert_eq!(rt;
             plain_tables::<Book, Width>(&apart, 2, &mut records, &mut workspace),
             Err(NoDestination)
         );
-        let alone = network(rt.alloc(), 1, &[])?;
+        let alone = Book::from_links(rt.alloc(), 1, &[])?;
         plain_tables::<Book, Delay>(&alone, 0, &mut records, &mut workspace)?;
         values_are(&rt, &records, &[Some(0)]);
         steps_are(&rt, &records, &[Some(0)]);
@@ -217,10 +182,14 @@ mod tests {
 
     #[test]
     fn of_parallel_links_the_lowest_number_is_next(rt: HostRuntime) -> Result<(), Fail> {
-        let book = network(
+        let book = Book::from_links(
             rt.alloc(),
             2,
-            &[link(0, 1, 7), link(0, 1, 5), link(0, 1, 5)],
+            &[
+                Link::new(0, 1, 7, 0),
+                Link::new(0, 1, 5, 0),
+                Link::new(0, 1, 5, 0),
+            ],
         )?;
         let mut workspace = Workspace::new();
         let mut recoveries = [None; 1024];
@@ -235,14 +204,14 @@ mod tests {
     #[test]
     fn delays_of_zero_in_a_cycle(rt: HostRuntime) -> Result<(), Fail> {
         let links = [
-            link(0, 1, 0),
-            link(1, 0, 0),
-            link(1, 2, 0),
-            link(2, 0, 0),
-            link(2, 3, 0),
-            link(0, 3, 0),
+            Link::new(0, 1, 0, 0),
+            Link::new(1, 0, 0, 0),
+            Link::new(1, 2, 0, 0),
+            Link::new(2, 0, 0, 0),
+            Link::new(2, 3, 0, 0),
+            Link::new(0, 3, 0, 0),
         ];
-        let book = network(rt.alloc(), 4, &links)?;
+        let book = Book::from_links(rt.alloc(), 4, &links)?;
         let mut workspace = Workspace::new();
         let mut records = [NodeRecord::default(); 256];
         plain_tables::<Book, Delay>(&book, 3, &mut records, &mut workspace)?;
@@ -254,8 +223,13 @@ mod tests {
 
     #[test]
     fn equal_widths(rt: HostRuntime) -> Result<(), Fail> {
-        let links = [link(0, 1, 7), link(1, 2, 7), link(2, 3, 7), link(0, 2, 7)];
-        let book = network(rt.alloc(), 4, &links)?;
+        let links = [
+            Link::new(0, 1, 7, 0),
+            Link::new(1, 2, 7, 0),
+            Link::new(2, 3, 7, 0),
+            Link::new(0, 2, 7, 0),
+        ];
+        let book = Book::from_links(rt.alloc(), 4, &links)?;
         let mut workspace = Workspace::new();
         let mut records = [NodeRecord::default(); 256];
         plain_tables::<Book, Width>(&book, 3, &mut records, &mut workspace)?;
@@ -274,7 +248,7 @@ mod tests {
         let mut draft = Draft::new(rt.alloc());
         draft.size(256)?;
         for node in 0..255u16 {
-            draft.add(link(node, node + 1, 4_294_967_295))?;
+            draft.add(Link::new(node, node + 1, 4_294_967_295, 0))?;
         }
         let book = draft.close();
         let mut workspace = Workspace::new();
