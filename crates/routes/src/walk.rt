@@ -82,6 +82,7 @@ impl<'a, N: Network> Walk<'a, N> {
     {
         let mut at = node;
         let mut passed = 0;
+        // Stays a loop: a rule of the project, by which it yields the node where the walk turns.
         let node = loop {
             if at == destination || passed >= self.records.len() {
                 break at;

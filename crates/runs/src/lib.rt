@@ -30,6 +30,7 @@ pub fn perform<N: Network, M: Measure>(planner: &mut Planner<N, M>, call: Call) 
     ensures keeps { network_of planner.new ≡ network_of planner.old }
 {
     let mut places = [0; 512];
+    // Stays written in each arm: a closure that lends the slice would be called in each arm all the same.
     match call {
         Call::Withdraw(place) => planner.withdraw(place).is_ok(),
         Call::Restore(place) => planner.restore(place).is_ok(),

@@ -127,6 +127,7 @@ impl<N: Network, M: Measure> Planner<N, M> {
 fn guaranteed_nodes(records: &[NodeRecord]) -> usize
     ensures { result ≡ tallied records.now }
 {
+    // Stays a loop: a rule of the project, which counts the records of a plan so.
     let mut count = 0;
     for record in records {
         if record.value.is_some() {
