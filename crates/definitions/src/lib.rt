@@ -42,6 +42,7 @@ impl Link {
 
 // Where and why a call was refused: the layer (1 draft, 2 map, 3 planner, 4 console), the number of the question
 // that was answered with no, and the place that it asked about.
+// Stays numbers: the rules name them, the console prints them, and the faults of each layer are enums.
 #[derive(Clone, Copy, PartialEq, Eq, Debug, Drop)]
 pub struct FaultCode {
     pub layer: u8,

@@ -1,4 +1,5 @@
 // What is proved of the definitions. Each function's contract is one theorem; it does nothing.
+// Stays a function for each: a theorem is named by its own contract, and a parameter has nothing to choose.
 ghost use Rattle.definitions.specs.Example.{AllCases, table};
 ghost use Rattle.definitions.specs.Theorems.{LabelsAreBest, NextsAreRight, BestValueExists, RecoveryExists, GuaranteeExists, HeldRouteExists, BackupExists, TraceIsGuaranteed};
 

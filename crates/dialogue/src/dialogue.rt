@@ -25,6 +25,7 @@ pub struct Dialogue<N: Network, M: Measure> {
 }
 
 // A dialogue is let go by closing its planner.
+// Stays written out: a planner is closed and not dropped, so nothing derives this.
 impl<N: Network + Drop, M: Measure> Drop for Dialogue<N, M> {
     fn drop(self) {
         let Dialogue { planner, lines: _ } = self;

@@ -38,6 +38,7 @@ fn begin<N: Network + Drop>(
     ensures { IfOk result (λ t. Added (string_bytes out.old) (string_bytes out.new) (First N.Network.meaning (Ok name) network t)) }
 {
     print_opening(out, name, network.node_count(), network.place_count())?;
+    // Stays an arm for each measure: `map(Session::ByDelay)` passes a constructor, of which the check can state nothing yet.
     match name {
         MeasureName::Delay => Ok(Session::ByDelay(Dialogue::open(heap, network)?)),
         MeasureName::Width => Ok(Session::ByWidth(Dialogue::open(heap, network)?)),

@@ -10,6 +10,7 @@ use networks::network::Network;
 
 // The links into each node, the highest number first: `first` has the highest of each node, and `next`
 // the next lower at each place.
+// Stays two arrays of numbers: the searches work in memory of fixed size.
 #[derive(PartialEq, Eq, Debug, Drop)]
 pub struct Index {
     pub first: [Option<u16>; 256],
@@ -35,6 +36,7 @@ impl Index {
         ensures { Indexing (N.Network.meaning network.now) self.new (k + 1) }
     {
         if let Some(link) = network.place(k) {
+            // Stays a cast: k is a place below 1,024, and a conversion that can fail would have nothing to do where it fails.
             self.next[k] = self.first[usize::from(link.head)].replace(k as u16);
         }
     }

@@ -18,6 +18,7 @@ use survey::{Selection, count_links};
 const BYTES_READ: u64 = 12_293;
 
 // The bytes of the map, as far as they matter. A file that is missing or cannot be read counts as empty.
+// Stays in both programs that read a map: in a library it would be a public call, and no contract says what a file holds.
 fn read_map(rt: &HostRuntime) -> io::Result<Vec<u8>> {
     let mut bytes = Vec::with_capacity(rt.alloc(), 16_384)?;
     if let Ok(file) = fs::open(rt, "net.map") {

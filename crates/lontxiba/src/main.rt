@@ -21,6 +21,7 @@ fn read_file(rt: &HostRuntime, bytes: &mut Vec<u8>) -> io::Result<usize> {
 }
 
 // The bytes of the map. A file that is missing or cannot be read counts as empty.
+// Stays in both programs that read a map: in a library it would be a public call, and no contract says what a file holds.
 fn read_map(rt: &HostRuntime) -> io::Result<Vec<u8>> {
     let mut bytes = Vec::with_capacity(rt.alloc(), 16_384)?;
     if read_file(rt, &mut bytes).is_err() {

@@ -13,13 +13,6 @@ use std::marker::PhantomData;
 mod calls;
 mod reads;
 
-// The record of a node that no search has reached.
-const BLANK: NodeRecord = NodeRecord {
-    value: None,
-    steps: None,
-    next: None,
-};
-
 // A mark for each place there can be, and a record for each node there can be, so that no call but `open` allocates. The
 // records of a plan that stands are right in the network without the withdrawn links.
 pub struct Planner<N: Network, M: Measure> {

@@ -5,6 +5,7 @@ use frontier::entries::{Candidate, Hop};
 use frontier::index::Index;
 
 // The memory that the searches work in. No answer depends on what it holds.
+// Stays arrays of fixed sizes: no search allocates.
 #[derive(Drop)]
 pub struct Workspace {
     pub(crate) index: Index,

@@ -7,7 +7,7 @@ ghost use Rattle.histories.specs.Parts.{MarkAnswer};
 ghost use Rattle.planner.specs.Planners.{state, OpenAnswer, Unchanged};
 ghost use Rattle.planner.specs.Tally.{tallied};
 
-use crate::planner::{BLANK, Planner};
+use crate::planner::Planner;
 use histories::fault::PlannerFault;
 use measures::Measure;
 use networks::layers::Withdrawn;
@@ -25,7 +25,7 @@ impl<N: Network, M: Measure> Planner<N, M> {
         let Ok(withdrawn) = Vec::from_elem(heap, false, 1024) else {
             return Err(network);
         };
-        let Ok(records) = Vec::from_elem(heap, BLANK, 256) else {
+        let Ok(records) = Vec::from_elem(heap, NodeRecord::default(), 256) else {
             return Err(network);
         };
         Ok(Planner {

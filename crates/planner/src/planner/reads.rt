@@ -9,13 +9,14 @@ ghost use Rattle.histories.specs.Promise.{GuaranteeHistory, RouteHistory, TraceH
 ghost use Rattle.planner.specs.Planners.{state};
 ghost use Rattle.routes.specs.Records.{value_of};
 
-use crate::planner::{BLANK, Planner};
+use crate::planner::Planner;
 use definitions::{Failure, GROUP_COUNT};
 use histories::call::Reading;
 use histories::fault::PlannerFault;
 use measures::Measure;
 use networks::layers::AtRisk;
 use networks::network::Network;
+use routes::record::NodeRecord;
 use routes::searches::plain_records;
 use routes::walk::{Walk, plain_value};
 
@@ -144,7 +145,7 @@ impl<N: Network, M: Measure> Planner<N, M> {
             network: self.in_service(),
             link: usize::from(link),
         };
-        let mut records = [BLANK; 256];
+        let mut records = [NodeRecord::default(); 256];
         let _ = plain_records::<_, M>(&layer, destination, &mut records);
         let walk = Walk {
             network: layer,
