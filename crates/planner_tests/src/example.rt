@@ -9,6 +9,7 @@ use std::alloc::Global;
 use std::test::Fail;
 
 // Four nodes and six links; `duct` is the groups of links 1 and 3.
+// Stays in both test crates that use it: shared, it would be a public call of a library, for tests alone.
 pub(crate) fn example(heap: Global, duct: u32) -> Result<Book, DraftFault> {
     Book::from_links(
         heap,

@@ -25,6 +25,7 @@ pub struct Answers {
 
 // Makes one call and says whether it was accepted. Its buffer holds 512 places at most, as good as any longer one: no
 // route, backup or trace has more.
+// Stays a bool: a list of calls keeps of each whether it was accepted, and no fault.
 pub fn perform<N: Network, M: Measure>(planner: &mut Planner<N, M>, call: Call) -> bool
     ensures follows { Follows M.Measure.scale (state N.Network.meaning planner.old) call result (state N.Network.meaning planner.new) }
     ensures keeps { network_of planner.new ≡ network_of planner.old }

@@ -16,6 +16,7 @@ mod tests {
     use std::process::Abort;
     use std::test::Fail;
 
+    // Stays in both test crates that use it: shared, it would be a public call of a library, for tests alone.
     // The example network: four nodes, links 0 to 5, of which links 1 and 3 have these groups.
     fn example(heap: Global, groups: u32) -> Result<Book, Fail> {
         let links = [
