@@ -1,4 +1,5 @@
-// The words of a line, one after another.
+// The words of a line, one after another. What each reading call passes stays a clause of it, which ties what was left before
+// to what is left after.
 ghost use Rattle.std.specs.Prelude.{◌+◌, ◌≤◌};
 ghost use Rattle.console.specs.Rest.{room};
 

@@ -23,6 +23,7 @@ pub fn check_map(bytes: &[u8]) -> Result<(), ConsoleFault>
 }
 
 // Answers whether the bytes are a map, and adds the refusal where they are none.
+// Stays a bool: the refusal has been printed, and the error is want of memory alone.
 pub fn admit_map(bytes: &[u8], out: &mut String) -> Result<bool, AllocError>
     ensures { IfOk result (λ b. Admitted (map_fault bytes.now) b (string_bytes out.old) (string_bytes out.new)) }
 {

@@ -29,6 +29,7 @@ pub enum Session<N: Network> {
 }
 
 // Opens the dialogue under the measure that the first line names.
+// The allocator and the network stay two parameters, here and below: as everywhere, what allocates is passed the allocator first.
 fn begin<N: Network + Drop>(
     heap: Global,
     network: N,
@@ -38,7 +39,7 @@ fn begin<N: Network + Drop>(
     ensures { IfOk result (λ t. Added (string_bytes out.old) (string_bytes out.new) (First N.Network.meaning (Ok name) network t)) }
 {
     print_opening(out, name, network.node_count(), network.place_count())?;
-    // Stays an arm for each measure: `map(Session::ByDelay)` passes a constructor, of which the check can state nothing yet.
+    // Stays an arm for each measure: `map(Session::ByDelay)` was tried, and the check cannot state what is passed over such a type.
     match name {
         MeasureName::Delay => Ok(Session::ByDelay(Dialogue::open(heap, network)?)),
         MeasureName::Width => Ok(Session::ByWidth(Dialogue::open(heap, network)?)),
@@ -88,6 +89,7 @@ impl<N: Network + Drop> Session<N> {
     fn advance(self, line: &[u8], out: &mut String) -> Result<Session<N>, AllocError>
         ensures { IfOk result (λ t. Added (string_bytes out.old) (string_bytes out.new) (Answered N.Network.meaning self line.now t)) }
     {
+        // Stays an arm for each measure, as above.
         match self {
             Session::Opening(heap, network) => open(heap, network, line, out),
             Session::ByDelay(dialogue) => Ok(Session::ByDelay(answered(dialogue, line, out)?)),

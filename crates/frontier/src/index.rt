@@ -82,6 +82,7 @@ pub fn index_links<N: Network>(network: &N, index: &mut Index)
 {
     index.first.fill(None);
     index.next.fill(None);
+    // Stays a loop over numbers: a network is asked for a place by its number.
     for k in 0..network.place_count() {
         index.enter_place(network, k);
     }

@@ -15,6 +15,7 @@ pub enum Call {
 }
 
 // A call, and whether the planner accepted it.
+// Stays a bool: each of the two answers is said of a call that was made, and no fault is kept.
 #[derive(Clone, Copy, PartialEq, Eq, Debug)]
 pub struct Event {
     pub call: Call,

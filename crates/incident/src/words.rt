@@ -3,16 +3,14 @@ use definitions::FaultCode;
 use histories::fault::PlannerFault;
 use std::{fmt, io};
 
-// The first places of a buffer, each after a space.
+// Places, each after a space.
+// Stays beside the console's own: this program does not speak its language, and does not know of it.
 #[derive(Clone, Copy)]
-struct Places<'a> {
-    buffer: &'a [u16],
-    count: usize,
-}
+struct Places<'a>(&'a [u16]);
 
 impl fmt::Display for Places<'_> {
     fn fmt<W: fmt::Write>(&self, f: &mut fmt::Formatter<W>) -> fmt::Result {
-        for place in self.buffer.iter().take(self.count) {
+        for place in self.0 {
             write!(f, " {place}")?;
         }
         Ok(())
@@ -20,6 +18,7 @@ impl fmt::Display for Places<'_> {
 }
 
 // A refusal, by its number and place.
+// The calls below stay a match each: what is said of an answer differs, and as a closure it would be as long.
 pub(crate) fn tell_refusal(rt: &HostRuntime, call: &str, fault: PlannerFault) -> io::Result<()> {
     let code = FaultCode::from(fault);
     println!(rt; "{call} is refused with {} at {}.", code.number, code.place)
@@ -45,7 +44,10 @@ pub(crate) fn tell_links(
     buffer: &[u16],
 ) -> io::Result<()> {
     match answer {
-        Ok(count) => println!(rt; "{what} takes links{}.", Places { buffer, count }),
+        Ok(count) => println!(rt;
+            "{what} takes links{}.",
+            Places(&buffer[..count.min(buffer.len())])
+        ),
         Err(fault) => tell_refusal(rt, what, fault),
     }
 }
@@ -61,7 +63,7 @@ pub(crate) fn tell_trace(
         Ok((value, count)) => {
             println!(rt;
                 "{what} has the value {value}; it takes links{}.",
-                Places { buffer, count }
+                Places(&buffer[..count.min(buffer.len())])
             )
         }
         Err(fault) => tell_refusal(rt, what, fault),

@@ -59,8 +59,7 @@ fn print_groups(rt: &HostRuntime, map: &Map) -> io::Result<()> {
 
 // Which nodes have no link out, and which none in.
 fn print_ends(rt: &HostRuntime, map: &Map) -> io::Result<()> {
-    // Stays a cast: a map has at most 256 nodes, which the check proves here.
-    for node in 0..map.node_count() as u16 {
+    for node in (0..map.node_count()).filter_map(|node| u16::try_from(node).ok()) {
         if count_links(map, Selection::From(node)) == 0 {
             println!(rt; "Node {node} has no link out.")?;
         }

@@ -70,7 +70,7 @@ impl Feed {
     ) -> Result<(), AllocError>
         ensures { OnOk result (Added (string_bytes out.old) (string_bytes out.new) (Leads R.Responder.answers R.Responder.ended self.old responder.old piece.now self.new responder.new)) }
     {
-        // Stays a loop: a closure would have to borrow the feed, the text and the responder at once.
+        // Stays a loop: `try_for_each` is no plainer, and the library has no lemma of what it answers.
         for byte in piece {
             self.feed_byte(*byte, out, responder)?;
         }

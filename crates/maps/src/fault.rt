@@ -51,6 +51,7 @@ impl From<MapFault> for FaultCode {
 
 impl MapFault {
     // The byte at which the fault lies; 0 where a map was to be written.
+    // Stays a method: it is a question beside the code, and no conversion of the fault.
     pub fn byte(&self) -> usize
         ensures { result ≡ byte_of self.now }
     {

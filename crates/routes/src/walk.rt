@@ -45,6 +45,7 @@ impl<'a, N: Network> Walk<'a, N> {
     }
 
     // Fills the buffer with the places along the next links from a node.
+    // Stays beside turning_point, which takes the same steps: one fills a buffer, and the other stops at a failure and counts.
     pub fn write_places(&self, node: usize, places: &mut [u16])
         ensures { (e : ℕ) (ks : List ℕ) → Leads (N.Network.meaning self.now.network) (next_of self.now.records.now) e node ks → length ks ≡ length places.old → places.new ≡ ks }
     {
@@ -62,7 +63,8 @@ impl<'a, N: Network> Walk<'a, N> {
     }
 
     // Writes the held route of a node at the start of the buffer and answers how many places it has, none where the
-    // search did not reach the node. They are counted first: where the buffer is too short it stays as it is.
+    // search did not reach the node: a call that cannot fail there has no better answer. They are counted first: where the
+    // buffer is too short it stays as it is.
     pub fn write_route(&self, node: usize, places: &mut [u16]) -> Result<usize, NoRoom>
         ensures { RouteWritten (N.Network.meaning self.now.network) self.now.records.now node places.old result places.new }
     {
@@ -82,7 +84,7 @@ impl<'a, N: Network> Walk<'a, N> {
     {
         let mut at = node;
         let mut passed = 0;
-        // Stays a loop: a rule of the project, by which it yields the node where the walk turns.
+        // Stays a loop: CONTRIBUTING.md wants the node where the walk turns yielded by a break.
         let node = loop {
             if at == destination || passed >= self.records.len() {
                 break at;

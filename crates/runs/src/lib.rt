@@ -47,7 +47,7 @@ pub fn perform<N: Network, M: Measure>(planner: &mut Planner<N, M>, call: Call) 
 }
 
 // Opens a planner and makes the calls of a list on it, each from what the one before left, and notes which were accepted.
-// Gives the network back, and notes nothing, where there is no memory.
+// Gives the network back, and notes nothing, where there is no memory. The error stays the network alone, as that of `open`.
 pub fn replay<N: Network, M: Measure>(
     heap: Global,
     network: N,

@@ -24,7 +24,7 @@ fn plain_graph<'a, N: Network, M: Measure>(
     Graph::new(network, index, starts)
 }
 
-// Is t a node?
+// Is t a node? Each public search asks it once, and the private ones, which take t as a number, have it for a premise.
 pub(crate) fn check_destination<N: Network>(network: &N, t: u16) -> Result<(), NoDestination>
     ensures node { OnOk result (t < (N.Network.meaning network.now).nodes) }
     ensures refused { OnErr result ((N.Network.meaning network.now).nodes ≤ t) }

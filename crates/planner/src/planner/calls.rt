@@ -17,6 +17,8 @@ use routes::searches::worst_records;
 use std::alloc::Global;
 use std::marker::PhantomData;
 
+// `keeps` and `unchanged` stay clauses of each call: they tie the planner before it to the planner after it, and a type speaks
+// of one. The error of `open` stays the network alone, which comes back: nothing else is to be said where there is no memory.
 impl<N: Network, M: Measure> Planner<N, M> {
     // A planner over a network with every link in service and no plan, or the network again where there is no memory.
     pub fn open(heap: Global, network: N) -> Result<Self, N>
@@ -101,6 +103,7 @@ impl<N: Network, M: Measure> Planner<N, M> {
     }
 
     // Sets the mark of a link's place and ends the plan; where the mark is that one already, `already` is the refusal.
+    // Stays a bool, which is what is stored, with the refusal that each of the two calls names.
     fn set_mark(
         &mut self,
         place: usize,
@@ -127,7 +130,7 @@ impl<N: Network, M: Measure> Planner<N, M> {
 fn guaranteed_nodes(records: &[NodeRecord]) -> usize
     ensures { result ≡ tallied records.now }
 {
-    // Stays a loop: a rule of the project, which counts the records of a plan so.
+    // Stays a loop: CONTRIBUTING.md wants the count of a plan in this form.
     let mut count = 0;
     for record in records {
         if record.value.is_some() {

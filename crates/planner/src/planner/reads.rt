@@ -20,6 +20,8 @@ use routes::record::NodeRecord;
 use routes::searches::plain_records;
 use routes::walk::{Walk, plain_value};
 
+// The buffer of route, backup and trace stays a slice that the caller lends, and what trace answers a pair of the value and
+// the count: the project's rules want both (CONTRIBUTING.md).
 impl<N: Network, M: Measure> Planner<N, M> {
     // The guarantee of a node: the worst value of its held route, whatever one failure takes away.
     pub fn guarantee(&self, node: usize) -> Result<u64, PlannerFault>
@@ -126,6 +128,7 @@ impl<N: Network, M: Measure> Planner<N, M> {
     }
 
     // Writes the backup of a node's next link after the first `passed` entries, and answers where it ends.
+    // Stays beside write_route: what is refused counts the entries passed, and the node is known to be reached.
     fn write_backup(
         &self,
         node: usize,
