@@ -30,6 +30,7 @@ pub enum Session<N: Network> {
 
 // Opens the dialogue under the measure that the first line names.
 // The allocator and the network stay two parameters, here and below: as everywhere, what allocates is passed the allocator first.
+// So do a line and the text that answers it: the text is emptied between lines, and outlives each.
 fn begin<N: Network + Drop>(
     heap: Global,
     network: N,

@@ -101,7 +101,9 @@ mod tests {
         let map = Map::try_from([1, 0, 0, 0].as_slice())?;
         assert_eq!(rt; map.node_count(), 256);
         assert_eq!(rt; map.place(0), None);
-        assert_eq!(rt; Map::open(&[1, 0, 0, 0]).node_count(), 256);
+        let opened = Map::open(&[1, 0, 0, 0]);
+        assert_eq!(rt; opened.node_count(), 256);
+        assert_eq!(rt; opened.place(0), None);
         Ok(())
     }
 

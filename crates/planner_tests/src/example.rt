@@ -30,10 +30,7 @@ pub(crate) fn opened<N: Network + Drop, M: Measure>(
     heap: Global,
     network: N,
 ) -> Result<Planner<N, M>, Fail> {
-    match Planner::open(heap, network) {
-        Ok(planner) => Ok(planner),
-        Err(_) => Err(Fail::new("no memory")),
-    }
+    Planner::open(heap, network).map_err(|_| Fail::new("no memory"))
 }
 
 // A refusal of the planner.
