@@ -1,7 +1,8 @@
 // Input in pieces of any size.
-ghost use Rattle.std.specs.Prelude.{◌≡◌, ℕ, List, [], ◌∷◌, None, string_bytes, OnOk};
+ghost use Rattle.std.specs.Prelude.{◌≡◌, ◌<◌, ℕ, List, [], ◌++◌, length, take, Some, None, string_bytes, OnOk};
+ghost use Rattle.std.specs.Option.{unwrap_or};
 ghost use Rattle.lines.specs.Dialogues.{Added, Turn, Dialogue, Leads, Completes};
-ghost use Rattle.lines.specs.Lines.{TheLines};
+ghost use Rattle.lines.specs.Lines.{Unbroken, broken_off, TheLines};
 
 use crate::line_buffer::LineBuffer;
 use crate::responder::Responder;
@@ -41,20 +42,29 @@ impl Feed {
         Feed { line: None }
     }
 
-    // Takes one byte; byte 10 ends a line.
-    fn feed_byte<R: Responder>(
+    // Keeps bytes of a line that has not ended, as far as they matter.
+    fn keep(&mut self, bytes: &[u8])
+        ensures none { bytes.now ≡ [] → self.new ≡ self.old }
+        ensures some { 0 < length bytes.now → self.new ≡ Some (take 65 (unwrap_or self.old [] ++ bytes.now)) }
+    {
+        if !bytes.is_empty() {
+            let line = self.line.get_or_insert_with(LineBuffer::new);
+            line.extend_from_slice(bytes);
+        }
+    }
+
+    // Takes the last bytes of a line that has now ended, and has it answered.
+    fn end_line<R: Responder>(
         &mut self,
-        byte: u8,
+        bytes: &[u8],
         out: &mut String,
         responder: &mut R,
     ) -> Result<(), AllocError>
-        ensures { OnOk result (Added (string_bytes out.old) (string_bytes out.new) (Leads R.Responder.answers R.Responder.ended self.old responder.old (byte ∷ []) self.new responder.new)) }
+        requires { Unbroken bytes.now }
+        ensures { OnOk result (Added (string_bytes out.old) (string_bytes out.new) (Leads R.Responder.answers R.Responder.ended self.old responder.old (broken_off bytes.now) self.new responder.new)) }
     {
         let line = self.line.get_or_insert_with(LineBuffer::new);
-        if byte != b'\n' {
-            line.push(byte);
-            return Ok(());
-        }
+        line.extend_from_slice(bytes);
         answer(line.line(), out, responder)?;
         line.clear();
         Ok(())
@@ -70,10 +80,13 @@ impl Feed {
     ) -> Result<(), AllocError>
         ensures { OnOk result (Added (string_bytes out.old) (string_bytes out.new) (Leads R.Responder.answers R.Responder.ended self.old responder.old piece.now self.new responder.new)) }
     {
-        // Stays a loop: `try_for_each` is no plainer, and the library has no lemma of what it answers.
-        for byte in piece {
-            self.feed_byte(*byte, out, responder)?;
+        // Each byte is looked at once: up to the end of a line it is copied, as far as it fits.
+        let mut rest = piece;
+        while let Some(end) = rest.iter().position(|byte| *byte == b'\n') {
+            self.end_line(&rest[..end], out, responder)?;
+            rest = &rest[end + 1..];
         }
+        self.keep(rest);
         Ok(())
     }
 

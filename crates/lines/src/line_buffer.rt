@@ -1,5 +1,5 @@
 // The line that is being read, as far as it matters.
-ghost use Rattle.std.specs.Prelude.{◌≡◌, [], ◌∷◌, ◌++◌, take};
+ghost use Rattle.std.specs.Prelude.{◌≡◌, ◌≤◌, [], ◌∷◌, ◌++◌, length, take};
 
 use arrayvec::ArrayVec;
 use std::marker::Model;
@@ -41,9 +41,18 @@ impl LineBuffer {
         }
     }
 
+    // More bytes of the line, of which those are copied that still fit.
+    pub fn extend_from_slice(&mut self, bytes: &[u8])
+        ensures { self.new ≡ take 65 (self.old ++ bytes.now) }
+    {
+        let fitting = self.bytes.remaining_capacity().min(bytes.len());
+        self.bytes.try_extend_from_slice(&bytes[..fitting]).unwrap();
+    }
+
     // The bytes that were kept.
     pub fn line(&self) -> &[u8]
-        ensures { result.now ≡ self.now }
+        ensures fits { length result.now ≤ 65 }
+        ensures value { result.now ≡ self.now }
     {
         self.bytes.as_slice()
     }
@@ -52,6 +61,6 @@ impl LineBuffer {
     pub fn clear(&mut self)
         ensures { self.new ≡ [] }
     {
-        self.bytes.clear();
+        self.bytes = ArrayVec::new();
     }
 }

@@ -16,7 +16,7 @@ returns-in-None g c =
 pub returns-in-Some : goal.returns-in-Some
 returns-in-Some g c =
     let none : c.line.result.now ≡ [] = nil_from_length _ (eqb-true _ 0 (search rules)) in
-    let empty : c.args.self.now ≡ Some [] = cc c.line.ensures in
+    let empty : c.args.self.now ≡ Some [] = cc c.line.ensures.value in
     ([], sym (append-nil _), completes_none g.R.Responder.answers g.R.Responder.ended c.args.self.now c.args.responder.now empty)
 
 pub returns-in-Some-2 : goal.returns-in-Some-2
