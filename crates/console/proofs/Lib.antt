@@ -1,4 +1,3 @@
-pub mod Numerals
 pub mod Reading
 pub mod Spelling
 pub mod WordLaws

