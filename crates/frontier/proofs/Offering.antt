@@ -4,7 +4,7 @@ use native.Mathlib.Decide.{ℕ_discrete}
 use Rattle.std.specs.List.Sorted.{IsPermutation}
 use Rattle.std.specs.List.{Contains}
 use Rattle.std.proofs.lemmas.List.{get_or_past}
-use Rattle.std.proofs.lemmas.Bool.{cases_lt}
+use Rattle.std.proofs.lemmas.Bool.{cases_lt, cond-true, lt-ltb}
 use Rattle.definitions.specs.declared.Link.{Link}
 use Rattle.definitions.specs.Networks.{Net, Holds, Limits, place}
 use Rattle.definitions.specs.Measures.{Scale, Laws}
@@ -27,7 +27,7 @@ use Rattle.std.specs.Prelude.{option_and_then}
 use Rattle.frontier.specs.declared.index.Index.{Index}
 use Rattle.frontier.specs.declared.index.LinksInto.{LinksInto}
 use Rattle.frontier.specs.Progress.{Waiting, Due, Offering, links_into, above, Owns, Along}
-use Rattle.frontier.specs.Indexes.{UpTo, Indexed, Stepped}
+use Rattle.frontier.specs.Indexes.{UpTo, Falling, Indexed, lower, Stepped}
 use Rattle.frontier.proofs.Tallies.{into_front, into_hit}
 
 -- a place that holds a link is one of the places
@@ -162,9 +162,18 @@ along_start net index u s e q I =
     let (le, none, own) = first_bound net _ _ here u s.cursor (q ∙ ap (λ i. place i.first u) (sym e)) in
     (le, none, (here, own))
 
+-- a place that is below j stays
+lower_at : (j : ℕ) (o : Option ℕ) → ((i : ℕ) → o ≡ Some i → i < j) → lower j o ≡ o
+lower_at j None below = refl
+lower_at j (Some i) below = cond-true _ _ _ (lt-ltb i j (below i refl))
+
+lower_next : (next : ℕ → Option ℕ) → Falling next → (o : Option ℕ) → option_and_then (λ j. lower j (next j)) o ≡ option_and_then next o
+lower_next next falls None = refl
+lower_next next falls (Some j) = lower_at j (next j) (falls j)
+
 -- and goes on
 pub along_step : (net : Net) (u k : ℕ) (s t : LinksInto) → Along net u s → Stepped s (Some k) t →
     (above s.cursor ≡ k + 1) × (above t.cursor ≤ k) × NoneBetween net u (above t.cursor) k × Along net u t
 along_step net u k s t (I, own) (is, same, then) =
-    let (le, none, rest) = next_bound net _ _ I u k t.cursor (subst (Owns I.owner u) (sym is) own) (then ∙ ap (option_and_then (place s.index.now.next)) (sym is)) in
+    let (le, none, rest) = next_bound net _ _ I u k t.cursor (subst (Owns I.owner u) (sym is) own) (then ∙ lower_next _ I.falls s.cursor ∙ ap (option_and_then (place s.index.now.next)) (sym is)) in
     (ap above (sym is), le, none, subst (λ i. (J : Indexed net (place i.first) (place i.next)) × Owns J.owner u t.cursor) (sym same) (I, rest))

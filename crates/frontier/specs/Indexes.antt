@@ -1,5 +1,5 @@
 -- An index of the links into each node.
-use Rattle.std.specs.Prelude.{◌≡◌, ℕ, ◌<◌, ◌≤◌, length, Some, None, Option, option_and_then}
+use Rattle.std.specs.Prelude.{◌≡◌, ℕ, ◌<◌, ◌≤◌, length, Some, None, Option, option_and_then, nat_lt, cond}
 use Rattle.definitions.specs.declared.Link.{Link}
 use Rattle.definitions.specs.Networks.{Net, Holds, place}
 use Rattle.frontier.specs.declared.index.LinksInto.{LinksInto}
@@ -24,6 +24,11 @@ pub record Indexed (net : Net) (first next : ℕ → Option ℕ) : Type 0 where
   pub first_covers : (k : ℕ) (l : Link) → Holds net k l → UpTo k (first l.head)
   pub next_covers : (u j k : ℕ) (l : Link) → owner j ≡ Some u → Holds net k l → l.head ≡ u → k < j → UpTo k (next j)
 
+-- The place, if it is below j. In an index of a network that is so of each place that j leads to.
+abbrev pub lower : ℕ → Option ℕ → Option ℕ
+lower j None = None
+lower j (Some i) = cond (nat_lt i j) (Some i) None
+
 -- One step along the links into a node: it gives the place that it stands at, if any, and goes to the next lower.
 abbrev pub Stepped : LinksInto → Option ℕ → LinksInto → Type 0
-Stepped s k t = (k ≡ s.cursor) × (t.index.now ≡ s.index.now) × (t.cursor ≡ option_and_then (place s.index.now.next) s.cursor)
+Stepped s k t = (k ≡ s.cursor) × (t.index.now ≡ s.index.now) × (t.cursor ≡ option_and_then (λ j. lower j (place s.index.now.next j)) s.cursor)

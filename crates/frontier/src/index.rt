@@ -2,7 +2,7 @@
 ghost use Rattle.std.specs.Prelude.{◌≡◌, ◌+◌, ◌<◌, length, replicate, None};
 ghost use Rattle.definitions.specs.Networks.{place};
 ghost use Rattle.std.specs.Iterator.{at_most};
-ghost use Rattle.frontier.specs.Indexes.{Indexed, Falling, Stepped};
+ghost use Rattle.frontier.specs.Indexes.{Indexed, Stepped};
 ghost use Rattle.frontier.specs.Progress.{Indexing, above};
 
 use crate::lists::at;
@@ -53,7 +53,8 @@ impl Index {
     }
 }
 
-// A walk along the links into one node: it stands at the place that it gives next.
+// A walk along the links into one node: it stands at the place that it gives next. It goes on to a lower place only, so that it
+// ends along any index.
 #[derive(Clone, Debug, Drop)]
 pub struct LinksInto<'a> {
     index: &'a Index,
@@ -63,15 +64,13 @@ pub struct LinksInto<'a> {
 impl<'a> Iterator for LinksInto<'a> {
     type Item = usize;
 
-    ghost can_next = { λ s. Falling (place s.index.now.next) };
-
     ghost next_gives = { Stepped };
 
     ghost remaining = { λ s. at_most (above s.cursor) };
 
     fn next(&mut self) -> Option<usize> {
         let k = usize::from(self.cursor?);
-        self.cursor = at(&self.index.next, k);
+        self.cursor = at(&self.index.next, k).filter(|j| usize::from(*j) < k);
         Some(k)
     }
 }

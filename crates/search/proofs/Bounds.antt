@@ -6,7 +6,7 @@ use Rattle.std.proofs.Math.Logic.{∥∥₁_elim, ∥∥₁_prop}
 use Rattle.definitions.specs.Networks.{Net, place}
 use Rattle.frontier.specs.declared.index.Index.{Index}
 use Rattle.frontier.specs.declared.index.LinksInto.{LinksInto}
-use Rattle.frontier.specs.Indexes.{Indexed, Falling, Stepped}
+use Rattle.frontier.specs.Indexes.{Indexed, Stepped}
 use Rattle.frontier.specs.Progress.{above, Along}
 use Rattle.heap.specs.declared.Heap.{Heap}
 use Rattle.search.specs.Offering.{HaveOffered, Takes}
@@ -14,10 +14,6 @@ use Rattle.frontier.proofs.Offering.{NoneBetween, along_start, along_step}
 
 between_prop : (net : Net) (u low high : ℕ) → IsProp (NoneBetween net u low high)
 between_prop net u low high = Π_prop (λ j. Π_prop (λ i. Π_prop (λ h. Π_prop (λ q. Π_prop (λ lo. Π_prop (λ hi. ⊥_prop))))))
-
--- the walk goes by an index
-pub falls : (net : Net) (u : ℕ) (s : LinksInto) → ∥ Along net u s ∥₁ → Falling (place s.index.now.next)
-falls net u s A = ∥∥₁_elim A (Π_prop (λ j. Π_prop (λ i. Π_prop (λ e. le_prop)))) (λ (I, own). I.falls)
 
 -- a walk begins
 pub start_below : (net : Net) (index : Index) (u : ℕ) (s : LinksInto) → s.index.now ≡ index → s.cursor ≡ place index.first u →

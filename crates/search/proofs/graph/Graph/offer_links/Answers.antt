@@ -1,6 +1,6 @@
 use Rattle.std.proofs.Common.{refl, sym, ap, ◌∙◌, [], Some, None}
 use Rattle.frontier.specs.Progress.{above}
-use Rattle.search.proofs.Bounds.{falls, start_below, step_below, bound_is, offered_more}
+use Rattle.search.proofs.Bounds.{start_below, step_below, bound_is, offered_more}
 use Rattle.search.proofs.graph.Graph.offer_links.Goals as goal
 
 pub loop-k-init : goal.loop-k-init
@@ -9,14 +9,14 @@ loop-k-init g c =
     let same = c.into_iter-k-iterator.ensures.into_iter_gives in
     let (le, none, along) = start_below net c.args.self.now.index.now c.args.node c.into_iter-k-iterator.result (ap (λ s. s.index.now) same ∙ c.links_into-k-items.ensures.index)
     (ap (λ s. s.cursor) same ∙ c.links_into-k-items.ensures.cursor) c.args.self.now.indexed in
-    (falls net c.args.node c.into_iter-k-iterator.result along, tt, along, ([], (refl, le, none)))
+    (tt, tt, along, ([], (refl, le, none)))
 
 pub loop-k-preserved-in-Some-offer : goal.loop-k-preserved-in-Some-offer
 loop-k-preserved-in-Some-offer g c =
     let net = g.N.Network.meaning c.args.self.now.network.now in
     let (le, none, along) = step_below net c.args.node c.in-Some.k c.loop-k.k-iterator c.next.new.self c.loop-k.invariant.2 c.in-Some.ensures.steps in
     let (ks, before) = c.loop-k.invariant.3 in (
-      falls net c.args.node c.next.new.self along,
+      tt,
       tt,
       along,
       offered_more _ net c.args.node _ c.args.heap.now c.loop-k.k-iterator c.next.new.self c.in-Some.k c.in-Some.ensures.steps le none ks c.loop-k.heap c.push.new.self before
@@ -29,7 +29,7 @@ loop-k-preserved g c =
     let net = g.N.Network.meaning c.args.self.now.network.now in
     let (le, none, along) = step_below net c.args.node c.in-Some.k c.loop-k.k-iterator c.next.new.self c.loop-k.invariant.2 c.in-Some.ensures.steps in
     let (ks, before) = c.loop-k.invariant.3 in (
-      falls net c.args.node c.next.new.self along,
+      tt,
       tt,
       along,
       offered_more _ net c.args.node _ c.args.heap.now c.loop-k.k-iterator c.next.new.self c.in-Some.k c.in-Some.ensures.steps le none ks c.loop-k.heap c.loop-k.heap before
