@@ -45,7 +45,9 @@ pub fn recovery_values<N: Network, M: Measure>(
     ensures refused { OnErr result (((N.Network.meaning network.now).nodes ≤ t) × (recoveries.new ≡ recoveries.old)) }
 {
     check_destination(network, t)?;
-    for (k, slot) in recoveries.iter_mut().enumerate() {
+    recoveries.fill(None);
+    let count = network.place_count();
+    for (k, slot) in recoveries[..count].iter_mut().enumerate() {
         *slot = recovery::<N, M>(network, t, k, workspace);
     }
     Ok(())

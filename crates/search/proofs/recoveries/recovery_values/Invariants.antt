@@ -13,4 +13,4 @@ Recovers m net t j x = ((l : Link) → Holds net j l → BestIs (plain m) (at_ri
 -- the places below k have their recovery values
 abbrev pub invariant-loop-k : goal.invariant-loop-k
 invariant-loop-k g l =
-    ((j : ℕ) → j < l.k → Recovers g.M.Measure.scale (g.N.Network.meaning l.network) l.t j (place l.recoveries j)) × (length l.recoveries ≡ 1024)
+    ((j : ℕ) → j < l.k → Recovers g.M.Measure.scale (g.N.Network.meaning l.network) l.t j (place l.slot-items j)) × (length l.slot-items ≡ l.count)
