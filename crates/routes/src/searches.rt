@@ -18,6 +18,9 @@ pub fn worst_records<N: Network, M: Measure>(
     ensures { SearchAnswer (worst M.Measure.scale (N.Network.meaning network.now) destination) (N.Network.meaning network.now) destination records.old result records.new }
 {
     let records = records.as_mut_array().ok_or(SearchFault::RecordCount)?;
+    if destination >= network.node_count() {
+        return Err(SearchFault::NoDestination);
+    }
     let t = u16::try_from(destination).map_err(|_| SearchFault::NoDestination)?;
     let mut workspace = Workspace::new();
     worst_tables::<N, M>(network, t, &mut [None; 1024], records, &mut workspace)?;
@@ -35,6 +38,9 @@ pub fn plain_records<N: Network, M: Measure>(
     ensures { SearchAnswer (plain M.Measure.scale) (N.Network.meaning network.now) destination records.old result records.new }
 {
     let records = records.as_mut_array().ok_or(SearchFault::RecordCount)?;
+    if destination >= network.node_count() {
+        return Err(SearchFault::NoDestination);
+    }
     let t = u16::try_from(destination).map_err(|_| SearchFault::NoDestination)?;
     let mut workspace = Workspace::new();
     plain_tables::<N, M>(network, t, records, &mut workspace)?;

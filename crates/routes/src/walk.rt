@@ -1,8 +1,8 @@
 // Walks along next links.
-ghost use Rattle.std.specs.Prelude.{◌≡◌, ℕ, ◌<◌, ◌≤◌, List, length};
+ghost use Rattle.std.specs.Prelude.{◌≡◌, ℕ, ◌<◌, ◌≤◌, ◌^◌, List, length, unwrap_or};
 ghost use Rattle.definitions.specs.Networks.{failed};
 ghost use Rattle.routes.specs.Records.{Leads, next_of, steps_of};
-ghost use Rattle.routes.specs.Walks.{plain_value, Turned, RouteWritten};
+ghost use Rattle.routes.specs.Walks.{links_of, plain_value, Turned, RouteWritten};
 
 use crate::record::NodeRecord;
 use definitions::Failure;
@@ -103,6 +103,23 @@ impl<'a, N: Network> Walk<'a, N> {
         };
         Turn { node, passed }
     }
+}
+
+// The place of a node's next link, as the records have it; 0 where it has none.
+pub fn next_place(records: &[NodeRecord], node: usize) -> usize
+    ensures { result ≡ unwrap_or (next_of records.now node) 0 }
+{
+    let record = records.get(node).copied().unwrap_or_default();
+    usize::from(record.next.unwrap_or(0))
+}
+
+// How many links the held route of a node has, as the records have it; 0 where the search did not reach the node.
+pub fn route_length(records: &[NodeRecord], node: usize) -> usize
+    ensures value { result ≡ links_of records.now node }
+    ensures small { result < 2 ^ 16 }
+{
+    let record = records.get(node).copied().unwrap_or_default();
+    usize::from(record.steps.unwrap_or(0))
 }
 
 // The plain value of a route: the starting value, extended by its figures from the last to the first.
