@@ -44,15 +44,15 @@ fn print_fault(rt: &HostRuntime, fault: MapFault) -> io::Result<()> {
 
 // Which risk groups are in use, and by how many links.
 fn print_groups(rt: &HostRuntime, map: &Map) -> io::Result<()> {
-    let links_in = |group| count_links(map, Selection::InGroup(group));
-    if (0..GROUP_COUNT).all(|group| links_in(group) == 0) {
+    let mut used = (0..GROUP_COUNT)
+        .map(|group| (group, count_links(map, Selection::InGroup(group))))
+        .filter(|(_, links)| *links > 0)
+        .peekable();
+    if used.peek().is_none() {
         return println!(rt; "No link belongs to a risk group.");
     }
-    for group in 0..GROUP_COUNT {
-        let links = links_in(group);
-        if links > 0 {
-            println!(rt; "Risk group {group}: {links} links.")?;
-        }
+    for (group, links) in used {
+        println!(rt; "Risk group {group}: {links} links.")?;
     }
     Ok(())
 }

