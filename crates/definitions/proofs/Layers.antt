@@ -1,5 +1,5 @@
 -- What a layer holds, and that it keeps the limits of a network.
-use Rattle.std.proofs.Common.{◌≡◌, ℕ, zero, suc, ◌<◌, ◌≤◌, Bool, true, false, cond, eqb, List, [], ◌∷◌, length, Some, None, Option, sym, refl, ap, ◌∙◌, subst, inl, inr}
+use Rattle.std.proofs.Common.{◌≡◌, ℕ, zero, suc, ◌<◌, ◌≤◌, Bool, true, false, cond, eqb, List, [], ◌∷◌, length, get_or, Some, None, Option, sym, refl, ap, ◌∙◌, subst, inl, inr, arith}
 use Rattle.std.proofs.lemmas.Bool.{cond-true, cond-false, or_left, or_right, or_from, eq-eqb, ne_eqb, cases_lt}
 use Rattle.std.proofs.lemmas.List.{get_or_past}
 use Rattle.std.proofs.lemmas.Option.{none-some}
@@ -67,6 +67,12 @@ risk_shared net k j e = place_emptied (risks net k) net.places j ∙ cond-true _
 
 pub risk_apart : (net : Net) (k j : ℕ) → (j ≡ k → ⊥) → share_group (place net.places j) (place net.places k) ≡ false → place (at_risk k net).places j ≡ place net.places j
 risk_apart net k j n e = place_emptied (risks net k) net.places j ∙ cond-false _ _ _ (or_from (eqb j k) _ (ne_eqb j k n) e)
+
+-- What is read at an index is what the place holds.
+pub place_read : {X : Type 0} (ps : List (Option X)) (k : ℕ) (x : Option X) → k < length ps → x ≡ get_or ps k x → x ≡ place ps k
+place_read [] k x h e = absurd (omega arith)
+place_read (p ∷ ps) zero x h e = e
+place_read (p ∷ ps) (suc k) x h e = place_read ps k x (omega arith) e
 
 -- Past the end a place holds nothing, so a link stands before the end.
 pub place_past : {X : Type 0} (ps : List (Option X)) (k : ℕ) → length ps ≤ k → place ps k ≡ None

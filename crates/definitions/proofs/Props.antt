@@ -1,9 +1,11 @@
 -- What has at most one proof, and so comes out of a truncated fact.
 use Rattle.std.proofs.Common.{◌≡◌, ℕ, Some, None, Option, refl}
 use mathlib.Core.Bool.{Bool-set}
-use mathlib.Core.HLevel.{⊥_prop, Π_prop}
+use mathlib.Core.HLevel.{⊥_prop, ¬_prop, Π_prop}
+use native.Mathlib.Bridge.{le_prop}
 use mathlib.Core.Logic.{∥∥₁_prop, ∥∥₁_elim}
-use Rattle.definitions.specs.Networks.{Net}
+use Rattle.definitions.specs.declared.Link.{Link}
+use Rattle.definitions.specs.Networks.{Net, Sound, Limits}
 use Rattle.definitions.specs.Routes.{Valuation, Best, NoRoute, BestIs}
 use Rattle.definitions.specs.Searches.{Labels}
 use Rattle.definitions.proofs.Fixpoint.{Lawful, label_best, label_none}
@@ -28,3 +30,15 @@ labels_answer ρ net t Fit L d S u = ∥∥₁_elim S (best_is_prop ρ net t u (
     go : Labels ρ net t d → (o : Option ℕ) → d u ≡ o → BestIs ρ net t u o
     go S (Some a) e = label_best ρ net t Fit L d S u a e
     go S None e = label_none ρ net t Fit L d S u e
+
+-- That a link is sound, and that a network keeps the limits, has at most one proof.
+pub sound_prop : (nodes : ℕ) (l : Link) → IsProp (Sound nodes l)
+sound_prop nodes l A B = λ i.
+    (le_prop A.0 B.0 i, le_prop A.1 B.1 i, ¬_prop A.2 B.2 i, le_prop A.3 B.3 i, le_prop A.4 B.4 i)
+
+pub limits_prop : (net : Net) → IsProp (Limits net)
+limits_prop net A B = λ i. record {
+  few_nodes = le_prop A.few_nodes B.few_nodes i;
+  few_places = le_prop A.few_places B.few_places i;
+  sound = Π_prop (λ k. Π_prop (λ l. Π_prop (λ h. sound_prop net.nodes l))) A.sound B.sound i;
+}

@@ -294,10 +294,10 @@ module _ (m : Scale) (M : Laws m) (net : Net) (t : ℕ) (bk : Book) (ok : all_ri
   made_worst k l v w h e = given_via m M net lim t rec recoveries k l v w h (made_via m rec k l v w e)
 
   -- Reading the labels.
-  guarantee_right : (u g : ℕ) → val u ≡ Some g → Guarantee m net t u g
+  pub guarantee_right : (u g : ℕ) → val u ≡ Some g → Guarantee m net t u g
   guarantee_right u g e = label_best (worst m net t) net t Value lawful val labels u g e
 
-  no_guarantee_right : (u : ℕ) → val u ≡ None → NoRoute (worst m net t) net t u
+  pub no_guarantee_right : (u : ℕ) → val u ≡ None → NoRoute (worst m net t) net t u
   no_guarantee_right u e = label_none (worst m net t) net t Value lawful val labels u e
 
   main_next : (u k : ℕ) → next? bk.main t u k ≡ true → (l : Link) × Next (worst m net t) net t u k l

@@ -1,13 +1,15 @@
 -- A search for next links, as it offers the places one by one.
-use Rattle.std.proofs.Common.{◌≡◌, ℕ, ◌+◌, ◌<◌, ◌≤◌, Result, Ok, Err, List, ◌∷◌, length, Some, None, MatchResult, Option, refl, ap, ◌∙◌, subst, inl, inr, arith}
+use Rattle.std.proofs.Common.{◌≡◌, ℕ, ◌+◌, ◌<◌, ◌≤◌, eqb, Result, Ok, Err, List, ◌∷◌, length, Some, None, Decides, MatchResult, Option, sym, refl, ap, ◌∙◌, subst, inl, inr, arith}
 use native.Mathlib.Decide.{ℕ_discrete}
+use Rattle.std.proofs.lemmas.Bool.{eqb-true, eq-eqb}
 use Rattle.std.specs.List.Sorted.{IsPermutation}
 use Rattle.std.specs.List.{Contains}
 use Rattle.std.proofs.lemmas.List.Sorted.{length_permutation}
 use Rattle.definitions.specs.declared.Link.{Link}
 use Rattle.definitions.specs.Networks.{Net, place}
+use Rattle.definitions.specs.Measures.{Scale, worse}
 use Rattle.definitions.specs.Routes.{Valuation, Tight}
-use Rattle.definitions.specs.Searches.{Labels, Stepping}
+use Rattle.definitions.specs.Searches.{given, Labels, Stepping}
 use Rattle.definitions.proofs.Fixpoint.{Lawful}
 use Rattle.definitions.proofs.Following.{tight_labels, labels_tight}
 use Rattle.definitions.proofs.Layers.{same_link}
@@ -20,8 +22,9 @@ use Rattle.heap.proofs.Held.{push_keeps, push_holds, push_only}
 use Rattle.frontier.specs.declared.entries.Settled.{Settled}
 use Rattle.frontier.specs.declared.entries.Hop.{Hop}
 use Rattle.frontier.specs.Orders.{StepsBefore}
+use Rattle.frontier.specs.Offers.{made}
 use Rattle.frontier.specs.Progress.{Due, links_into, Hopping, HopOffering}
-use Rattle.frontier.specs.Hops.{HopOffered}
+use Rattle.frontier.specs.Hops.{LabelTight, HopOffered}
 use Rattle.frontier.proofs.Offering.{due_more, due_down, NoneBetween, holds_inside}
 use Rattle.frontier.proofs.Tallies.{into_front, into_hit}
 
@@ -97,3 +100,21 @@ module _ (ρ : Valuation) (net : Net) (d s : ℕ → Option ℕ) (from : Settled
           let b = into_hit net from.node k off.0 (holds_inside net k off.0 off.1) off.1 off.2 in
           let f = O.room in
           absurd (omega arith)
+
+-- The test of a tight link by the labels: is what the link makes the label at its tail?
+pub meeting_test : (m : Scale) (r d : ℕ → Option ℕ) (k : ℕ) (l : Link) (b a w : ℕ) → d l.head ≡ Some b → d l.tail ≡ Some a →
+    made m (r k) l.figure b ≡ Some w → Decides (eqb w a) (LabelTight (given m r) d k l)
+meeting_test m r d k l b a w db da mk = (
+  (λ e. let q = eqb-true w a e in let (x, ex, p) = makes (r k) refl mk in (b, a, db, da, (x, ex, sym q ∙ p))),
+  λ (b', a', db', da', (x', ex', p')).
+      let (x, ex, p) = makes (r k) refl mk in
+      let bb : b' ≡ b = cc in
+      let aa : a ≡ a' = cc in
+      let xx : x' ≡ x = cc in
+      let pp : a' ≡ worse m x (m.extend b l.figure) = subst (λ y. a' ≡ worse m y (m.extend b l.figure)) xx (subst (λ y. a' ≡ worse m x' (m.extend y l.figure)) bb p') in
+      eq-eqb w a (p ∙ (sym pp ∙ sym aa)),
+)
+  where
+    makes : (o : Option ℕ) → r k ≡ o → made m o l.figure b ≡ Some w → (x : ℕ) × (r k ≡ Some x) × (w ≡ worse m x (m.extend b l.figure))
+    makes None e q = let z : ◌≡◌ {A = ℕ} 0 1 = cc in absurd (omega arith)
+    makes (Some x) e q = (x, e, (let z : w ≡ worse m x (m.extend b l.figure) = cc in z))

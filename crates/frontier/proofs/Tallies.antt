@@ -19,7 +19,7 @@ pub into_hit : (net : Net) (u k : ℕ) (l : Link) → k < length net.places → 
 into_hit net u k l lt h e = count_by_more_yes (leads_to u) net.places k None lt (rw h (eq-eqb l.head u e))
 
 -- a test that splits in two
-count_by_split : {X : Type 0} (f g h : X → Bool) → ((x : X) → ◌≡◌ {A = ℕ} (cond (f x) 1 0) (cond (g x) 1 0 + cond (h x) 1 0)) →
+pub count_by_split : {X : Type 0} (f g h : X → Bool) → ((x : X) → ◌≡◌ {A = ℕ} (cond (f x) 1 0) (cond (g x) 1 0 + cond (h x) 1 0)) →
     (xs : List X) → count_by f xs ≡ count_by g xs + count_by h xs
 count_by_split f g h e [] = refl
 count_by_split f g h e (x ∷ xs) =

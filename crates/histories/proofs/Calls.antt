@@ -1,5 +1,5 @@
 -- What the reading calls answer, from what their parts answered.
-use Rattle.std.proofs.Common.{◌≡◌, ℕ, ◌+◌, ◌<◌, ◌≤◌, true, ◌⊎◌, List, [], ◌∷◌, ◌++◌, length, take, drop, Some, Ok, Err, Result, sym, ap, ◌∙◌, subst, ap₂, inl, inr, append_assoc, append-nil, zero-add, arith, length-append, length-take, take_at, drop_at, unwrap_or}
+use Rattle.std.proofs.Common.{◌≡◌, ℕ, ◌+◌, ◌<◌, ◌≤◌, Bool, true, false, cond, ltb, ◌⊎◌, List, [], ◌∷◌, ◌++◌, length, take, drop, Some, None, Ok, Err, Option, Result, sym, refl, ap, ◌∙◌, subst, ap₂, inl, inr, append_assoc, append-nil, zero-add, arith, length-append, length-take, take_at, drop_at, ltb-true, unwrap_or}
 use Rattle.definitions.specs.declared.Link.{Link}
 use Rattle.definitions.specs.declared.Failure.{Failure}
 use Rattle.definitions.specs.declared.Failure.TheVariants.{Nothing, OneLink, OneGroup}
@@ -10,14 +10,14 @@ use Rattle.definitions.specs.Plans.{plain, worst, Guarantee, Backup, Traced, arr
 use Rattle.definitions.proofs.Lawfuls.{Value}
 use Rattle.histories.specs.declared.call.Reading.{Reading}
 use Rattle.histories.specs.declared.fault.PlannerFault.{PlannerFault}
-use Rattle.histories.specs.declared.fault.PlannerFault.TheVariants.{AtDestination, NoRoom}
+use Rattle.histories.specs.declared.fault.PlannerFault.TheVariants.{NoPlan, NoNode, AtDestination, NoRoom}
 use Rattle.routes.specs.Records.{Leads, value_of, next_of}
 use Rattle.routes.specs.declared.walk.NoRoom.{NoRoom as Needed}
 use Rattle.routes.specs.Walks.{links_of, plain_value, Spared, Blocked, Turned, RouteWritten, written}
 use Rattle.histories.specs.Questions.{Asks, Moves, Fits, Fails}
 use Rattle.histories.specs.State.{State, in_service, Right}
 use Rattle.histories.specs.Answers.{GuaranteeAnswer, NextAnswer, RouteAnswer, BackupAnswer, TraceAnswer}
-use Rattle.histories.specs.Parts.{read_answer, DetourAnswer, FailureAnswer}
+use Rattle.histories.specs.Parts.{read_answer, read_from, read_value, DetourAnswer, FailureAnswer}
 use Rattle.histories.proofs.Plain.{ok_err, ok_one, err_one}
 use Rattle.histories.proofs.Reading.{found, lawful, Known, service_limits, reading_refused, reading_accepted}
 use Rattle.routes.proofs.Leading.{some_one, way, onwards}
@@ -26,6 +26,18 @@ use Rattle.definitions.proofs.Fixpoint.{best_label}
 use Rattle.definitions.proofs.Following.{next_one}
 use Rattle.definitions.proofs.Short.{held_short}
 use Rattle.definitions.proofs.Tracing.{traced_value}
+
+-- a node that is read is one
+pub node_read : (s : State) (u t g : ℕ) (r : Result Reading PlannerFault) → r ≡ read_answer s u → r ≡ Ok (found t g) → u < s.net.nodes
+node_read s u t g r asked q = standing s.standing (sym asked ∙ q)
+  where
+    node : (x : ℕ) (b : Bool) → ltb u s.net.nodes ≡ b → cond b (read_value x u (value_of s.records u)) (Err (NoNode u)) ≡ Ok (found t g) → u < s.net.nodes
+    node x true p e = ltb-true u s.net.nodes p
+    node x false p e = absurd (ok_err _ (found t g) (NoNode u) e refl)
+
+    standing : (o : Option ℕ) → read_from s o u ≡ Ok (found t g) → u < s.net.nodes
+    standing None e = absurd (ok_err _ (found t g) NoPlan e refl)
+    standing (Some x) e = node x (ltb u s.net.nodes) refl e
 
 -- The held route of a node that is read, cut where the walk along it ends.
 module _ (m : Scale) (M : Laws m) (s : State) (N : Limits s.net) (R : Right m s) (u : ℕ) (f : Failure) (t g v c : ℕ) (full : length s.records ≡ 256) (turn : Turned (in_service s) s.records t f u v c) (K : Known m M s N R u t g) where

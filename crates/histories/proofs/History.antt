@@ -212,3 +212,28 @@ pub any_calls : (m : Scale) (s : State) (P : Net → Net → ℕ → Type 0) →
 any_calls m s P here n h a t st w mk =
     let there : P n (without (marked s.marks) n) t = subst (λ y. P y (without (marked s.marks) y) t) a.net (here t (after_right m n h s a) ((a.standing t).1 st)) in
     subst (λ f. P n (without f n) t) (same_marks h (marked s.marks) w a.marks mk) there
+
+-- What the changing calls leave is right.
+module _ (m : Scale) (s s' : State) (R : Right m s) where
+  same_right : s' ≡ s → Right m s'
+  same_right e = subst (Right m) (sym e) R
+
+  unplanned_right : (k : ℕ) (b : Bool) → s' ≡ remarked s k b → Right m s'
+  unplanned_right k b e = subst (Right m) (sym e) tt
+
+  pub withdraw_right : (k : ℕ) (r : Result (Unit {0}) PlannerFault) → WithdrawAnswer s k r s' → Right m s'
+  withdraw_right k r (inr (none, (e, same))) = same_right same
+  withdraw_right k r (inl (l, hl, inr (out, (e, same)))) = same_right same
+  withdraw_right k r (inl (l, hl, inl (free, (e, same)))) = unplanned_right k true same
+
+  pub restore_right : (k : ℕ) (r : Result (Unit {0}) PlannerFault) → RestoreAnswer s k r s' → Right m s'
+  restore_right k r (inr (none, (e, same))) = same_right same
+  restore_right k r (inl (l, hl, inr (out, (e, same)))) = same_right same
+  restore_right k r (inl (l, hl, inl (free, (e, same)))) = unplanned_right k false same
+
+  pub plan_right : (t : ℕ) (r : Result ℕ PlannerFault) → PlanAnswer m s t r s' → Right m s'
+  plan_right t r (inr (out, (e, same))) = same_right same
+  plan_right t r (inl (lt, (c, e, p))) =
+      let net : PlanRight m (without (marked s.marks) s'.net) (Some t) s'.records = subst (λ y. PlanRight m (without (marked s.marks) y) (Some t) s'.records) (sym p.net) p.right in
+      let marks : PlanRight m (in_service s') (Some t) s'.records = subst (λ ms. PlanRight m (without (marked ms) s'.net) (Some t) s'.records) (sym p.marks) net in
+      subst (λ o. PlanRight m (in_service s') o s'.records) (sym p.standing) marks

@@ -1,5 +1,5 @@
 -- A map that was written reads back: it has no fault, and means the network.
-use Rattle.std.proofs.Common.{◌≡◌, ℕ, zero, suc, ◌+◌, ◌*◌, ◌<◌, ◌≤◌, cond, eqb, ltb, List, ◌++◌, map, length, take, drop, Some, None, Ok, Err, Option, sym, refl, ap, ◌∙◌, arith}
+use Rattle.std.proofs.Common.{◌≡◌, ℕ, zero, suc, ◌+◌, ◌*◌, ◌<◌, ◌≤◌, Bool, true, false, cond, eqb, ltb, List, ◌++◌, map, length, take, drop, Some, None, Ok, Err, Option, sym, refl, ap, ◌∙◌, arith}
 use Rattle.std.specs.Int.{Width, w16, w32, byte_len, from_be_bytes}
 use Rattle.std.specs.List.{range_with_len}
 use Rattle.std.proofs.lemmas.Nat.{from_be_bytes-to_be_bytes_2, from_be_bytes-to_be_bytes_4}
@@ -9,8 +9,8 @@ use Rattle.std.proofs.lemmas.List.{drop-drop, drop-append-le, drop_at, drop_more
 use Rattle.definitions.specs.declared.Link.{Link}
 use Rattle.std.specs.Option.{option_map}
 use Rattle.maps.specs.declared.fault.MapFault.{MapFault}
-use Rattle.maps.specs.declared.fault.MapFault.TheVariants.{Nodes, BadLink, SmallBuffer}
-use Rattle.maps.specs.Faults.{link_byte}
+use Rattle.maps.specs.declared.fault.MapFault.TheVariants.{Nodes, EmptyPlace, BadLink, SmallBuffer}
+use Rattle.maps.specs.Faults.{link_byte, byte_of}
 use Rattle.definitions.specs.Networks.{Net, Limits, Sound, place}
 use Rattle.networks.specs.Drafts.{refusal}
 use Rattle.maps.specs.Maps.{number_at, node_count, link_count, link_at, mapped}
@@ -129,3 +129,13 @@ reads_back n new rest room len limits e is =
     let front : take len new ≡ map_bytes n = ap (take len) is ∙ take_at (map_bytes n) rest len long in
     let none : map_fault (map_bytes n) ≡ None = checks n limits ok.0 ok.1 in
     (ap map_fault front ∙ none, ap opened front ∙ ap (λ o. unless o (mapped (map_bytes n))) none ∙ means n limits ok.0 ok.1)
+
+-- Each refusal to write lies at byte 0.
+byte_zero : (b c : Bool) (o : Option ℕ) (need : ℕ) (f : MapFault) → Err f ≡ cond b (Err (Nodes 0)) (unless_empty o (cond c (Err (SmallBuffer need)) (Ok need))) → byte_of f ≡ 0
+byte_zero true c o need f e = let same : f ≡ Nodes 0 = cc in ap byte_of same
+byte_zero false c (Some k) need f e = let same : f ≡ EmptyPlace k = cc in ap byte_of same
+byte_zero false true None need f e = let same : f ≡ SmallBuffer need = cc in ap byte_of same
+byte_zero false false None need f e = let z : ◌≡◌ {A = ℕ} 0 1 = cc in absurd (omega arith)
+
+pub writable_byte : (n : Net) (room : ℕ) (f : MapFault) → Err f ≡ writable n room → byte_of f ≡ 0
+writable_byte n room f e = byte_zero (eqb n.nodes 0) (ltb room (map_length n)) (first_empty n.places) (map_length n) f e
