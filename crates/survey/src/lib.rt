@@ -42,7 +42,8 @@ impl Selection {
 pub fn count_links<N: Network>(network: &N, selection: Selection) -> usize
     ensures { result ≡ selected selection (N.Network.meaning network.now) }
 {
-    // Stays a loop: two adapters over a book take 24 times as long, and one takes half as many instructions again in a run of `inspect`.
+    // Stays a loop: over a book two adapters take 24 times as long, and one makes a run of `inspect` take about twice the
+    // instructions.
     let mut count = 0;
     for k in 0..network.place_count() {
         if selection.holds(network.place(k)) {
