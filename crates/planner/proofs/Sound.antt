@@ -1,5 +1,5 @@
 -- What a planner holds is right, and what follows for a node with a guarantee.
-use Rattle.std.proofs.Common.{◌≡◌, ℕ, ◌<◌, List, length, Some, vec_items, IsSome, sym, refl, subst, arith}
+use Rattle.std.proofs.Common.{◌≡◌, ℕ, ◌<◌, List, length, Some, Ok, Result, vec_items, IsSome, sym, refl, subst, arith}
 use mathlib.Core.Logic.{∥∥₁_elim}
 use Rattle.definitions.specs.declared.Link.{Link}
 use Rattle.definitions.specs.Networks.{Net, Limits, at_risk}
@@ -8,7 +8,10 @@ use Rattle.definitions.specs.Routes.{Next}
 use Rattle.definitions.specs.Plans.{plain, worst, Backup}
 use Rattle.definitions.proofs.Lawfuls.{Value, worst_lawful}
 use Rattle.histories.specs.State.{marked, in_service, PlanRight, Right}
-use Rattle.histories.proofs.Reading.{service_limits}
+use Rattle.histories.specs.declared.call.Reading.{Reading}
+use Rattle.histories.specs.declared.fault.PlannerFault.{PlannerFault}
+use Rattle.histories.specs.Parts.{read_answer}
+use Rattle.histories.proofs.Reading.{found, known, service_limits}
 use Rattle.histories.proofs.Unique.{right_prop}
 use Rattle.networks.specs.declared.network.Network.{Ghosts as NetworkGhosts}
 use Rattle.measures.specs.declared.Measure.{Ghosts as MeasureGhosts}
@@ -49,3 +52,9 @@ module _ {N M : Type 0} {gn : NetworkGhosts N} {gm : MeasureGhosts M} (p : Plann
         let E : Recorded (plain gm.scale) (at_risk x (in_service s)) t layer = subst (λ y. Recorded (plain gm.scale) (at_risk x y) t layer) same (found (subst (λ y. t < y.nodes) (sym same) recorded.0)) in
         let (l, ks, K, B, P, z) = detour gm.scale laws (in_service s) (service_limits s limits) t (vec_items p.records) recorded.1 u a x layer away e n E in
         (l, ks, K, B, subst (λ y. Leads (at_risk x y) (next_of layer) t u ks) (sym same) P, z)
+
+  -- a node that is read has a next link, unless it is the destination
+  pub next_found : (t g u : ℕ) (r : Result Reading PlannerFault) → r ≡ read_answer (state gn.meaning p) u → r ≡ Ok (found t g) → (u ≡ t → ⊥) → (x : ℕ) × (next_of (vec_items p.records) u ≡ Some x)
+  next_found t g u r asked q away =
+      let K = known gm.scale laws (state gn.meaning p) limits right u r t g asked q in
+      some_there (next_of (vec_items p.records) u) (next_there t u K.stands away (subst (λ o. IsSome o) (sym K.label) refl))

@@ -37,7 +37,8 @@ impl<N: Network, M: Measure> Planner<N, M> {
         ensures answer { NextAnswer M.Measure.scale (state N.Network.meaning self.now) node result }
         ensures follows { Follows M.Measure.scale (state N.Network.meaning self.now) (Next node) (is_ok result) (state N.Network.meaning self.now) }
     {
-        if node == self.read(node)?.destination {
+        let destination = self.read(node)?.destination;
+        if node == destination {
             return Err(PlannerFault::AtDestination(node));
         }
         Ok(usize::from(self.walk().next_place(node).unwrap()))
