@@ -18,7 +18,7 @@ pub fn worst_records<N: Network, M: Measure>(
     ensures { SearchAnswer (worst M.Measure.scale (N.Network.meaning network.now) destination) (N.Network.meaning network.now) destination records.old result records.new }
 {
     let records = records.as_mut_array().ok_or(SearchFault::RecordCount)?;
-    // Asked before the memory of the search is made ready, so that a refusal costs nothing.
+    // Asked before the workspace is made, which a refusal does not need.
     if destination >= network.node_count() {
         return Err(SearchFault::NoDestination);
     }
@@ -39,7 +39,7 @@ pub fn plain_records<N: Network, M: Measure>(
     ensures { SearchAnswer (plain M.Measure.scale) (N.Network.meaning network.now) destination records.old result records.new }
 {
     let records = records.as_mut_array().ok_or(SearchFault::RecordCount)?;
-    // Asked before the memory of the search is made ready, as above.
+    // Asked before the workspace is made, as in worst_records.
     if destination >= network.node_count() {
         return Err(SearchFault::NoDestination);
     }
